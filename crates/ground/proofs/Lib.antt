@@ -1,0 +1,5 @@
+-- The laws that every crate cites. Assumes nothing.
+pub mod Cases
+pub mod Rounded
+pub mod Units
+pub mod Same

@@ -1,0 +1,2 @@
+// What every crate of the sound unit stands on: small numbers here, choice and float laws in specs/ and proofs/.
+pub mod num;
