@@ -1,0 +1,187 @@
+-- Demand 3: t units in all since the start are t / K frames and t % K units kept, and each working clock adds 2 ^ u units with nothing rounded. Assumes nothing.
+use mathlib.Core.Path.{_≡_, refl, sym, ap, _∙_}
+use mathlib.Core.Bool.{Bool, true, false, not}
+use mathlib.Core.List.{List, [], _∷_}
+use Prim.Native.Nat.{ℕ, zero, suc, _+_, _-_, _*_, _/_, _%_, _^_, _≤_, _<_}
+use native.Mathlib.Nat.{mod-lt, mod-eq-of-lt, div-eq-of-lt, div-add-mod', mul-add-div-right, mul-add-mod-self-right, add-zero, add-assoc, add-mul, one-mul, zero-add, zero-mul, lt-of-lt-of-le, le-trans, le-add-right, mod-eq-sub-div-mul}
+use native.Mathlib.Omega.{arith}
+use lib.Dec.{T, leb, ltb, leb→le, nleb→lt, ltb→lt, nltb→le, lit≤, lit<}
+use lib.Pow.{pow-pos}
+use lib.IntN.{pos, negsuc}
+use lib.Ieee.{Float, fin, binary64, round}
+use lib.Ieee.Scale.{round-same}
+use Rattle.clocks.specs.declared.sample_counter.Ticked.{Ticked}
+use Rattle.ground.specs.Units.{unitsOf}
+use Rattle.clocks.specs.Counter.{everyAt, tickBy}
+use Rattle.clocks.specs.Calls.{Call, normal, double, other, refused, Clocks, more, after, clocked, run, fresh, normals, doubles, times, worked, K, Conserved}
+use Rattle.ground.proofs.Units.{exact}
+use Rattle.clocks.proofs.Working.{left, Room, tick-units}
+
+-- ---- quotient and remainder, known by their sum
+div-mod-is : (n K q r : ℕ) → r < K → n ≡ q * K + r → (n / K ≡ q) × (n % K ≡ r)
+div-mod-is n K q r h e =
+    let z : 0 < K = omega arith in (
+      ap (λ (x : ℕ). x / K) e ∙ mul-add-div-right z q r ∙ ap (λ (x : ℕ). q + x) (div-eq-of-lt h) ∙ add-zero q,
+      ap (λ (x : ℕ). x % K) e ∙ mul-add-mod-self-right q K r ∙ mod-eq-of-lt h,
+    )
+
+-- ---- t units in all, since there were f frames: t / K frames more, and t % K units left
+abbrev pub heldAt : ℕ → ℕ → ℕ → ℕ → ℕ → Clocks
+heldAt u K f h t = record { half = h; counter = unitsOf binary64 u (t % K); frames = f + t / K }
+
+-- what one working clock adds to t, the counter's own step being known
+abbrev counted : Ticked → ℕ → ℕ → Clocks
+counted c h f = record { half = h; counter = c .counter; frames = more (c .made) f }
+
+enough : (t K p q r : ℕ) → q * K + r ≡ t → K ≤ r + p → t + p ≡ (q + 1) * K + (r + p - K)
+enough t K p q r e h =
+    let d : (q + 1) * K ≡ q * K + K = add-mul q 1 K ∙ ap (λ (x : ℕ). q * K + x) (one-mul K) in
+    omega arith
+
+too-few : (t K p q r : ℕ) → q * K + r ≡ t → t + p ≡ q * K + (r + p)
+too-few t K p q r e = omega arith
+
+rest-lt : (r p K : ℕ) → r < K → p ≤ K → r + p - K < K
+rest-lt r p K h l = omega arith
+
+tock : (u K f h t : ℕ) → Room u K → counted (tickBy (unitsOf binary64 u K) (unitsOf binary64 u (t % K))) h (f + t / K) ≡ heldAt u K f h (t + 2 ^ u)
+tock u K f h t r =
+    let p = 2 ^ u in
+    let z : 0 < K = lt-of-lt-of-le (pow-pos u) (r .low) in
+    ap (λ (c : Ticked). counted c h (f + t / K)) (tick-units u K (t % K) r (mod-lt t z))
+    ∙ go (leb K (t % K + p)) (leb→le K (t % K + p)) (nleb→lt K (t % K + p)) z
+  where
+    go : (b : Bool) → (T b → K ≤ t % K + 2 ^ u) → (T (not b) → t % K + 2 ^ u < K) → 0 < K → counted (left u K b (t % K + 2 ^ u)) h (f + t / K) ≡ heldAt u K f h (t + 2 ^ u)
+    go true g l z =
+        let d = div-mod-is (t + 2 ^ u) K (t / K + 1) (t % K + 2 ^ u - K) (rest-lt (t % K) (2 ^ u) K (mod-lt t z) (r .low)) (enough t K (2 ^ u) (t / K) (t % K) (div-add-mod' t K) (g tt)) in
+        rw (d .0, d .1, ← add-assoc f (t / K) 1)
+    go false g l z =
+        let d = div-mod-is (t + 2 ^ u) K (t / K) (t % K + 2 ^ u) (l tt) (too-few t K (2 ^ u) (t / K) (t % K) (div-add-mod' t K)) in
+        rw (d .0, d .1)
+
+-- ---- from a counter of k units and g half-clocks: after H half-clocks in all
+abbrev pub reached : ℕ → ℕ → ℕ → ℕ → ℕ → Clocks
+reached u K f k H = heldAt u K f (H % 2) (k + H / 2 * 2 ^ u)
+
+clocked-reached : (u K f k H d : ℕ) → Room u K → d ≤ 2 → clocked (unitsOf binary64 u K) d (reached u K f k H) ≡ reached u K f k (H + d)
+clocked-reached u K f k H d r D = go (ltb (H % 2 + d) 2) (ltb→lt (H % 2 + d) 2) (nltb→le (H % 2 + d) 2)
+  where
+    go : (b : Bool) → (T b → H % 2 + d < 2) → (T (not b) → 2 ≤ H % 2 + d) → after b (unitsOf binary64 u K) (H % 2 + d) (reached u K f k H) ≡ reached u K f k (H + d)
+    go true g l =
+        let s : H % 2 + d < 2 = g tt in
+        let a : (H + d) % 2 ≡ H % 2 + d = omega arith in
+        let b : (H + d) / 2 ≡ H / 2 = omega arith in
+        rw (a, b)
+    go false g l =
+        let s : 2 ≤ H % 2 + d = l tt in
+        let a : (H + d) % 2 ≡ H % 2 + d - 2 = omega arith in
+        let b : (H + d) / 2 ≡ H / 2 + 1 = omega arith in
+        let c : k + (H / 2 + 1) * 2 ^ u ≡ k + H / 2 * 2 ^ u + 2 ^ u = ap (λ (x : ℕ). k + x) (add-mul (H / 2) 1 (2 ^ u) ∙ ap (λ (x : ℕ). H / 2 * 2 ^ u + x) (one-mul (2 ^ u))) ∙ sym (add-assoc k (H / 2 * 2 ^ u) (2 ^ u)) in
+        rw (a, b, c) (tock u K f (H % 2 + d - 2) (k + H / 2 * 2 ^ u) r)
+
+two-more : (H a b : ℕ) → H + 2 + (2 * a + b) ≡ H + (2 * (1 + a) + (0 + b))
+two-more H a b = omega arith
+
+one-more : (H a b : ℕ) → H + 1 + (2 * a + b) ≡ H + (2 * (0 + a) + (1 + b))
+one-more H a b = omega arith
+
+no-more : (H a b : ℕ) → H + (2 * a + b) ≡ H + (2 * (0 + a) + (0 + b))
+no-more H a b = omega arith
+
+-- the half-clocks of a row of calls
+halves : List Call → ℕ
+halves cs = 2 * normals cs + doubles cs
+
+run-reached : (u K f k : ℕ) (cs : List Call) (H : ℕ) → Room u K → run (unitsOf binary64 u K) cs (reached u K f k H) ≡ reached u K f k (H + halves cs)
+unfolding run halves normals doubles
+run-reached u K f k [] H r = ap (reached u K f k) (sym (add-zero H))
+run-reached u K f k (normal ∷ cs) H r =
+    ap (run (unitsOf binary64 u K) cs) (clocked-reached u K f k H 2 r (lit≤ tt)) ∙ run-reached u K f k cs (H + 2) r ∙ ap (reached u K f k) (two-more H (normals cs) (doubles cs))
+run-reached u K f k (double ∷ cs) H r =
+    ap (run (unitsOf binary64 u K) cs) (clocked-reached u K f k H 1 r (lit≤ tt)) ∙ run-reached u K f k cs (H + 1) r ∙ ap (reached u K f k) (one-more H (normals cs) (doubles cs))
+run-reached u K f k (other ∷ cs) H r = run-reached u K f k cs H r ∙ ap (reached u K f k) (no-more H (normals cs) (doubles cs))
+run-reached u K f k (refused ∷ cs) H r = run-reached u K f k cs H r ∙ ap (reached u K f k) (no-more H (normals cs) (doubles cs))
+
+-- ---- from f frames, a kept remainder of k units and g half-clocks (a unit that is taken up again has these), over any calls
+pub from-kept : (u K f g k : ℕ) (cs : List Call) → Room u K → g < 2 → k < K
+    → run (unitsOf binary64 u K) cs (record { half = g; counter = unitsOf binary64 u k; frames = f }) ≡ reached u K f k (g + (2 * normals cs + doubles cs))
+unfolding halves
+from-kept u K f g k cs r G h =
+    let a : g % 2 ≡ g = omega arith in
+    let b : g / 2 ≡ 0 = omega arith in
+    let c : k + 0 * 2 ^ u ≡ k = ap (λ (x : ℕ). k + x) (zero-mul (2 ^ u)) ∙ add-zero k in
+    let start : reached u K f k g ≡ record { half = g; counter = unitsOf binary64 u k; frames = f } = rw (a, b, c, mod-eq-of-lt h, div-eq-of-lt h, add-zero f) in
+    ap (run (unitsOf binary64 u K) cs) (sym start) ∙ run-reached u K f k cs g r
+
+-- ---- from a fresh unit, over any calls, with N as K units of 2 ^ -u
+round-zero : round binary64 false 0 1 ≡ fin false 0 (pos 0)
+unfolding round
+round-zero = refl
+
+zero-units : (u : ℕ) → unitsOf binary64 u 0 ≡ fin false 0 (pos 0)
+unfolding unitsOf
+zero-units u = round-same binary64 false 0 (2 ^ u) 0 1 (pow-pos u) (lit< tt) (sym (zero-mul (2 ^ u))) ∙ round-zero
+
+same-W : (a b : ℕ) → (0 + (2 * a + b)) / 2 ≡ a + b / 2
+same-W a b = omega arith
+
+same-half : (a b : ℕ) → (0 + (2 * a + b)) % 2 ≡ b % 2
+same-half a b = omega arith
+
+-- the whole state
+pub from-fresh : (u K : ℕ) → Room u K → (cs : List Call) → run (unitsOf binary64 u K) cs fresh ≡ heldAt u K 0 (doubles cs % 2) (worked cs * 2 ^ u)
+from-fresh u K r cs =
+    ap (λ (x : Float). run (unitsOf binary64 u K) cs (record { half = 0; counter = x; frames = 0 })) (sym (zero-units u))
+    ∙ from-kept u K 0 0 0 cs r (lit< tt) (lt-of-lt-of-le (pow-pos u) (r .low))
+    ∙ rw (same-W (normals cs) (doubles cs), same-half (normals cs) (doubles cs), zero-add (worked cs * 2 ^ u))
+
+-- demand 3, in its words
+pub conserved-by : (u K : ℕ) → Room u K → (cs : List Call) → Conserved u K cs (run (unitsOf binary64 u K) cs fresh)
+conserved-by u K r cs =
+    let t = worked cs * 2 ^ u in
+    let z : 0 < K = lt-of-lt-of-le (pow-pos u) (r .low) in
+    rw (from-fresh u K r cs)
+    (record {
+      frames = zero-add (t / K);
+      rest = rw (zero-add (t / K), ← mod-eq-sub-div-mul t K) (exact binary64 u (t % K) (r .deep) (lt-of-lt-of-le (mod-lt t z) (le-trans (le-add-right K (2 ^ u)) (r .high))));
+      half = refl;
+    })
+
+-- ---- at 44,100
+pub K-is : 11025 * K ≡ 2 ^ 66 + 1511
+K-is = refl
+
+-- each side is computed by itself: compared with one another, two calls of `round` run to the step limit
+nearest-is : everyAt 44100 ≡ fin false K (negsuc 47)
+unfolding everyAt round
+nearest-is = refl
+
+units-are : unitsOf binary64 48 K ≡ fin false K (negsuc 47)
+unfolding unitsOf round
+units-are = refl
+
+pub every-units : everyAt 44100 ≡ unitsOf binary64 48 K
+every-units = nearest-is ∙ sym units-are
+
+pub room : Room 48 K
+room = record { deep = lit≤ tt; low = lit≤ tt; high = lit≤ tt }
+
+pub conserved : (cs : List Call) → Conserved 48 K cs (run (everyAt 44100) cs fresh)
+conserved cs = rw every-units (conserved-by 48 K room cs)
+
+one-more-is : (n : ℕ) → 1 + n ≡ suc n
+one-more-is n = omega arith
+
+normals-times : (n : ℕ) → normals (times n normal) ≡ n
+unfolding normals times
+normals-times zero = refl
+normals-times (suc n) = ap (λ (x : ℕ). 1 + x) (normals-times n) ∙ one-more-is n
+
+doubles-times : (n : ℕ) → doubles (times n normal) ≡ 0
+unfolding doubles times
+doubles-times zero = refl
+doubles-times (suc n) = ap (λ (x : ℕ). 0 + x) (doubles-times n)
+
+-- ---- the frames that n working clocks make from a fresh unit
+pub frames-by-formula : (n : ℕ) → run (everyAt 44100) (times n normal) fresh .frames ≡ n * 2 ^ 48 / K
+frames-by-formula n = conserved (times n normal) .frames ∙ rw (normals-times n, doubles-times n, add-zero n)

@@ -1,0 +1,6 @@
+-- The laws of the clocks. Assumes nothing.
+pub mod Working  -- one working clock, in whole units
+pub mod Conserved  -- demand 3 over any row of calls
+pub mod Rates  -- for any rate
+pub mod Metering  -- the meter and the ranges
+pub mod Seen  -- how a unit's own calls come under demand 3

@@ -1,0 +1,3 @@
+// The clocks of the sound unit: half-clocks, the f64 sample counter, and a meter that counts frames in whole numbers.
+pub mod meter; // meter.rt: the frames of many clock calls, without ticking
+pub mod sample_counter; // sample_counter.rt: half-clocks of a call, and one working clock of the counter

@@ -1,0 +1,58 @@
+// The sample counter as a whole number of 2^-48: frames of many clock calls are counted by a division, with no float and no loop.
+ghost use mathlib.Core.Path.{_≡_};
+ghost use Prim.Native.Nat.{_≤_};
+ghost use Rattle.clocks.specs.Calls.{K};
+ghost use Rattle.clocks.specs.Metered.{Held, gained, fresh, metered};
+
+// What a working clock adds: 2^48 units of 2^-48.
+const CLOCK_UNITS: u64 = 281474976710656;
+
+// What a frame takes: K units, N as a whole number of 2^-48.
+const FRAME_UNITS: u64 = 6692696262570359;
+
+// Half-clocks, 0 or 1, and the rest, the sample counter in units of 2^-48, below K of them.
+pub struct Meter {
+    pub half: u64,
+    pub rest: u64,
+}
+
+// The frames that some calls make, and the meter after them.
+pub struct Metered {
+    pub frames: u64,
+    pub meter: Meter,
+}
+
+// The half-clocks of so many clock calls at one speed.
+fn gain(double: bool, count: u64) -> u64
+    requires { ⌜ count ≤ 16384 ⌝ }
+    ensures { λ r. ⌜ r ≡ gained double count ⌝ }
+    ensures { λ r. ⌜ r ≤ 32768 ⌝ }
+{
+    if double { count } else { count * 2 }
+}
+
+impl Meter {
+    // The meter of a fresh unit.
+    pub fn new() -> Meter
+        ensures { λ r. ⌜ r ≡ fresh ⌝ }
+    {
+        Meter { half: 0, rest: 0 }
+    }
+
+    // So many clock calls at one speed. 16,385 working clocks of 2^48 units and a rest below K stay under 2^64.
+    pub fn calls(self, double: bool, count: u64) -> Metered
+        requires { ⌜ Held K self ⌝ }
+        requires { ⌜ count ≤ 16384 ⌝ }
+        ensures { λ r. ⌜ r ≡ metered 48 K self double count ⌝ }
+    {
+        let halves = self.half + gain(double, count);
+        let total = self.rest + halves / 2 * CLOCK_UNITS;
+        Metered {
+            frames: total / FRAME_UNITS,
+            meter: Meter {
+                half: halves % 2,
+                rest: total % FRAME_UNITS,
+            },
+        }
+    }
+}
