@@ -1,0 +1,3 @@
+-- The laws of a frame's numbers. Assumes nothing.
+pub mod Ranges
+pub mod Constants

@@ -1,0 +1,29 @@
+-- The ranges of a frame's floats, over whole numbers of 2 ^ -149, the smallest f32 above zero. No plain call asks them. Assumes nothing.
+use Prim.Native.Nat.{ℕ, _^_, _≤_}
+use mathlib.Core.Bool.{false}
+use lib.Dec.{T}
+use lib.Ieee.{Float, binary32, fits}
+use lib.Ieee.Digits.{Equals}
+use lib.Ieee.Exact.{HasValue}
+use Rattle.frame.specs.declared.converter.Converter.{Converter}
+
+-- 1.0 in units of 2 ^ -149
+abbrev pub one : ℕ
+one = 2 ^ 149
+
+-- c lies from 0 to 1: finite, without a sign, and exactly so many units, no more than 1.0 has
+pub record Charge (c : Float) : Type 0 where
+  pub units : ℕ
+  pub is : HasValue c false units one
+  pub most : units ≤ one
+
+-- a converter's range: its capacitor is an f32, from 0 to 1
+pub record Held (d : Converter) : Type 0 where
+  pub single : T (fits binary32 (d .capacitor))
+  pub charge : Charge (d .capacitor)
+
+-- x is finite and, whatever its sign, exactly so many units in size, no more than k
+pub record Within (k : ℕ) (x : Float) : Type 0 where
+  pub units : ℕ
+  pub is : Equals x units one
+  pub most : units ≤ k
