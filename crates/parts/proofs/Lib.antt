@@ -1,0 +1,2 @@
+-- The laws of the parts. Assumes nothing.
+pub mod Ranges

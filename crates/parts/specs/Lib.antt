@@ -1,0 +1,3 @@
+-- The rules of what several channels are made of.
+pub mod Envelope
+pub mod Length
