@@ -1,0 +1,2 @@
+-- The laws of the noise channel. Assumes nothing.
+pub mod Ranges

@@ -1,0 +1,2 @@
+// The noise channel: a record taken by value, each method handing back the next one.
+pub mod noise_channel; // noise_channel.rt: the 15-bit register

@@ -1,0 +1,2 @@
+-- The laws of a pulse channel. Assumes nothing.
+pub mod Ranges

@@ -1,0 +1,2 @@
+-- The laws of the wave channel. Assumes nothing.
+pub mod Ranges

@@ -1,0 +1,2 @@
+// The wave channel: a record taken by value, each method handing back the next one.
+pub mod wave_channel; // wave_channel.rt: 32 nibbles, and the DMG's ways with them
