@@ -1,0 +1,2 @@
+-- The laws of the sound unit. Assumes nothing.
+pub mod Ranges

@@ -1,0 +1,32 @@
+-- The ranges of the sound unit, made of its parts'. That is all that a call may ask of a state. Assumes nothing.
+use mathlib.Core.Path.{_≡_}
+use Prim.Native.Nat.{_≤_}
+use lib.IntN.{ℤ, pos, negsuc}
+use Rattle.clocks.specs.Counter.{Kept}
+use Rattle.clocks.specs.Calls.{K}
+use Rattle.groups.specs.PulseGroups as pulse
+use Rattle.groups.specs.WaveGroups as wave
+use Rattle.groups.specs.NoiseGroups as noise
+use Rattle.apu.specs.declared.Apu.{Apu}
+
+-- "sequencer -1..7"
+abbrev pub PositionHeld : ℤ → Type 0
+PositionHeld (pos n) = n ≤ 7
+PositionHeld (negsuc n) = n ≡ 0
+
+-- "Ranges held from the start"; "half-clocks 0..1"
+pub record Held (a : Apu) : Type 0 where
+  pub pulse1 : pulse.Held (a .pulse1)
+  pub pulse2 : pulse.Held (a .pulse2)
+  pub wave : wave.Held (a .wave)
+  pub noise : noise.Held (a .noise)
+  pub position : PositionHeld (a .«sequencer_position»)
+  pub clocks : a .«clocks_counter» ≤ 1
+
+-- the ranges of the floats, which no plain call asks: capacitors from 0 to 1, the sample counter a whole number of 2 ^ -48 below N
+pub record FloatsHeld (a : Apu) : Type 0 where
+  pub pulse1 : pulse.FloatHeld (a .pulse1)
+  pub pulse2 : pulse.FloatHeld (a .pulse2)
+  pub wave : wave.FloatHeld (a .wave)
+  pub noise : noise.FloatHeld (a .noise)
+  pub counter : Kept 48 K (a .«sample_counter»)

@@ -1,0 +1,2 @@
+-- The laws of the groups. Assumes nothing.
+pub mod Ranges
