@@ -1,0 +1,2 @@
+-- The proof of the marked examples. Assumes nothing.
+pub mod Hold

@@ -1,0 +1,108 @@
+-- The marked examples of document 01, in its order and numbering, as ONE list. A row has the example's number, what the rules give, and what the
+-- document says; yes and no are 1 and 0. Example 4 waits for the unit's registers. Assumes nothing.
+use mathlib.Core.Path.{_≡_}
+use mathlib.Core.Bool.{Bool, true, false}
+use mathlib.Core.List.{List, [], _∷_}
+use Prim.Native.Nat.{ℕ}
+use lib.ListN.{getD}
+use lib.Ieee.{binary32, toBits}
+use Rattle.clocks.specs.Counter.{everyAt}
+use Rattle.clocks.specs.Calls.{normal, run, fresh, times}
+use Rattle.frame.specs.Converter as converter
+use Rattle.frame.specs.Mixing.{sideOf}
+use Rattle.pulse.specs.Pulse as pulse
+use Rattle.pulse.specs.With as pulses
+use Rattle.wave.specs.Wave as wave
+use Rattle.wave.specs.With as waves
+use Rattle.noise.specs.Noise as noise
+use Rattle.pulse.specs.declared.pulse_channel.PulseChannel.{PulseChannel}
+
+pub record Row : Type 0 where
+  pub number : ℕ
+  pub given : ℕ
+  pub said : ℕ
+
+abbrev row : ℕ → ℕ → ℕ → Row
+row number given said = record { number = number; given = given; said = said }
+
+-- the single statement: each row's rules give what the document says
+infixr 4 _and_
+pub data AllHold : List Row → Type 0 where
+  end : AllHold []
+  _and_ : {r : Row} {rs : List Row} → r .given ≡ r .said → AllHold rs → AllHold (r ∷ rs)
+
+-- ---- what the examples speak of
+
+-- 1 to 3: the frames that n working clocks make
+abbrev pub framesAfter : ℕ → ℕ
+framesAfter n = run (everyAt 44100) (times n normal) fresh .frames
+
+-- 5 and 6: a fresh pulse with its DAC on, FF10 and a frequency written, then triggered; whether it is on
+abbrev started : ℕ → ℕ → PulseChannel
+started ff10 frequency = pulse.triggered (pulses.withFrequency (pulse.sweepWritten (pulse.enveloped pulse.fresh 0xF0) ff10) frequency)
+
+abbrev on : PulseChannel → ℕ
+on p = asNumber (p .«channel_enabled»)
+  where
+    asNumber : Bool → ℕ
+    asNumber true = 1
+    asNumber false = 0
+
+-- 7: the reload after a write of FF22
+abbrev reload : ℕ → ℕ
+reload ff22 = noise.reloadOf (noise.written noise.fresh ff22)
+
+-- 9: sixteen bytes, byte i being 16 + i, and byte i after a DMG trigger with the timer at 0
+abbrev bytes : List ℕ
+bytes = 16 ∷ 17 ∷ 18 ∷ 19 ∷ 20 ∷ 21 ∷ 22 ∷ 23 ∷ 24 ∷ 25 ∷ 26 ∷ 27 ∷ 28 ∷ 29 ∷ 30 ∷ 31 ∷ []
+
+abbrev byte : ℕ → ℕ → ℕ
+byte position i = getD (wave.triggered (waves.withPosition (waves.withBuffer wave.fresh bytes) position) true .buffer) i 0
+
+-- 10: a channel's sample, as a pattern
+abbrev sample : ℕ → ℕ → ℕ
+sample output volume = toBits binary32 (sideOf (converter.stepped converter.fresh output false .«dac_out») volume true)
+
+-- ---- the list
+abbrev pub marked : List Row
+marked =
+    -- 1. "23 working clocks, no frame; 24, one; 47, one; 48, two."
+    row 1 (framesAfter 23) 0
+    ∷ row 1 (framesAfter 24) 1
+    ∷ row 1 (framesAfter 47) 1
+    ∷ row 1 (framesAfter 48) 2
+    -- 2. "262,144: 11,024 frames; 262,145: 11,025."
+    ∷ row 2 (framesAfter 262144) 11024
+    ∷ row 2 (framesAfter 262145) 11025
+    -- 3. "1,048,576: 44,099."
+    ∷ row 3 (framesAfter 1048576) 44099
+    -- 5. "Trigger with DAC on, add, shift 1: 1365 stays on, 1366 goes off."
+    ∷ row 5 (on (started 0x01 1365)) 1
+    ∷ row 5 (on (started 0x01 1366)) 0
+    -- 6. "FF10 11, frequency 1024: trigger stays on; first sweep clock leaves 1536, off."
+    ∷ row 6 (on (started 0x11 1024)) 1
+    ∷ row 6 (pulse.sweepClocked (started 0x11 1024) .frequency) 1536
+    ∷ row 6 (on (pulse.sweepClocked (started 0x11 1024))) 0
+    -- 7. "FF22 00: reload 2; 07: 28; C0: 8192; D0: 0; A7: 12288."
+    ∷ row 7 (reload 0x00) 2
+    ∷ row 7 (reload 0x07) 28
+    ∷ row 7 (reload 0xC0) 8192
+    ∷ row 7 (reload 0xD0) 0
+    ∷ row 7 (reload 0xA7) 12288
+    -- 8. "Noise 7FFF: 3FFF; in 7-bit mode 3FBF; 4001 in it: 6040."
+    ∷ row 8 (noise.steppedRegister 0x7FFF false) 0x3FFF
+    ∷ row 8 (noise.steppedRegister 0x7FFF true) 0x3FBF
+    ∷ row 8 (noise.steppedRegister 0x4001 true) 0x6040
+    -- 9. "DMG wave trigger, timer 0: position 6, byte 0 from byte 3; 9, bytes 0..3 from 4..7; 31, none differ."
+    ∷ row 9 (byte 6 0) 19
+    ∷ row 9 (byte 6 1) 17
+    ∷ row 9 (byte 9 0) 20
+    ∷ row 9 (byte 9 1) 21
+    ∷ row 9 (byte 9 2) 22
+    ∷ row 9 (byte 9 3) 23
+    ∷ row 9 (byte 9 4) 20
+    ∷ row 9 (byte 31 0) 16
+    ∷ row 9 (byte 31 1) 17
+    -- 10. "Output 15, capacitor 0, volume 7: channel sample 3E4CCCCD."
+    ∷ row 10 (sample 15 7) 0x3E4C_CCCD
+    ∷ []
