@@ -4,3 +4,4 @@ pub mod Conserved  -- demand 3 over any row of calls
 pub mod Rates  -- for any rate
 pub mod Metering  -- the meter and the ranges
 pub mod Seen  -- how a unit's own calls come under demand 3
+pub mod Positions  -- nine values of the sequencer's position

@@ -3,3 +3,4 @@ pub mod Counter  -- one working clock
 pub mod Calls  -- any row of calls, and demand 3
 pub mod Rates  -- other sample rates
 pub mod Metered  -- frames without ticking
+pub mod Position  -- the sequencer's position

@@ -1,3 +1,4 @@
 -- The laws of a frame's numbers. Assumes nothing.
 pub mod Ranges
+pub mod Room
 pub mod Constants

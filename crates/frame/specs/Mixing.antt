@@ -1,10 +1,13 @@
 -- The ten numbers of a frame, from document 01, "Steps of a clock call". Assumes nothing.
-use Prim.Native.Nat.{ℕ}
+use Prim.Native.Nat.{ℕ, _+_, _/_, _%_, _^_}
 use mathlib.Core.Bool.{Bool, cond}
+use lib.Dec.{eqb}
 use lib.IntN.{pos}
 use lib.Ieee.{Float, binary32, ofBits, ofInt, add, mul, div}
-use Rattle.frame.specs.Converter.{f0}
+use Rattle.frame.specs.Converter.{f0, stepped}
+use Rattle.frame.specs.declared.converter.Converter.{Converter}
 use Rattle.frame.specs.declared.mixing.Sides.{Sides}
+use Rattle.frame.specs.declared.mixing.Voiced.{Voiced}
 use Rattle.frame.specs.declared.mixing.Mix.{Mix}
 
 -- the f32s 1, 5 and 8
@@ -25,6 +28,19 @@ sideOf sample volume selected =
 -- on the right and on the left
 unfoldable pub sidesOf : Float → ℕ → ℕ → Bool → Bool → Sides
 sidesOf sample right left rightward leftward = record { right = sideOf sample right rightward; left = sideOf sample left leftward }
+
+-- FF25 as Pan Docs has it: bits 0 to 3 the right side, 4 to 7 the left, pulse 1 lowest in each
+unfoldable pub selectedOf : ℕ → ℕ → Bool
+selectedOf selection bit = eqb (selection / 2 ^ bit % 2) 1
+
+-- a channel, 0 to 3, through its converter to both sides; FF24's volumes are bits 0 to 2 for the right, 4 to 6 for the left
+unfoldable pub voiced : Converter → ℕ → Bool → ℕ → ℕ → ℕ → Voiced
+voiced d output muted control selection channel =
+    let after = stepped d output muted in
+    record {
+      converter = after .converter;
+      sides = sidesOf (after .«dac_out») (control % 8) (control / 16 % 8) (selectedOf selection channel) (selectedOf selection (channel + 4));
+    }
 
 -- "`all` adds pulse1, pulse2, wave, noise from the left"
 abbrev pub sum4 : Float → Float → Float → Float → Float

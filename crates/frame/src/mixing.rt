@@ -1,6 +1,8 @@
 // The mixing of `Apu::push_output` in apu.rs: each operation in f32, in the Rust's order.
 ghost use mathlib.Core.Path.{_≡_};
-ghost use Rattle.frame.specs.Mixing.{sideOf, sidesOf, mixed};
+ghost use Prim.Native.Nat.{_≤_};
+ghost use Rattle.frame.specs.Mixing.{sideOf, sidesOf, selectedOf, voiced, mixed};
+use crate::converter::Converter;
 
 // The two numbers of a frame that go to one buffer.
 pub struct Sides {
@@ -36,6 +38,49 @@ pub fn sides_of(sample: f32, right: u8, left: u8, rightward: bool, leftward: boo
     Sides {
         right: side_of(sample, right, rightward),
         left: side_of(sample, left, leftward),
+    }
+}
+
+// A converter after a frame's step, and its channel's two numbers.
+pub struct Voiced {
+    pub converter: Converter,
+    pub sides: Sides,
+}
+
+// Whether a bit of FF25 is set: bits 0 to 3 send the channels to the right, 4 to 7 to the left.
+pub fn selected(selection: u8, bit: u8) -> bool
+    requires { ⌜ bit ≤ 7 ⌝ }
+    ensures { λ r. ⌜ r ≡ selectedOf selection bit ⌝ }
+{
+    (selection >> bit) % 2 == 1
+}
+
+// The converter's step and the channel's numbers, by FF24 and FF25; channels are 0 to 3, pulse 1 first.
+pub fn voice(
+    converter: Converter,
+    output: u8,
+    muted: bool,
+    control: u8,
+    selection: u8,
+    channel: u8,
+) -> Voiced
+    requires { ⌜ channel ≤ 3 ⌝ }
+    ensures { λ r. ⌜ r ≡ voiced converter output muted control selection channel ⌝ }
+{
+    let converted = converter.dac_output(output, muted);
+    let rightward = selected(selection, channel);
+    let leftward = selected(selection, channel + 4);
+    let sides = sides_of(
+        converted.dac_out,
+        control % 8,
+        control / 16 % 8,
+        rightward,
+        leftward,
+    );
+    let next = converted.converter;
+    Voiced {
+        converter: next,
+        sides,
     }
 }
 

@@ -32,3 +32,8 @@ both-ways P false p q = q
 pub and-left : (b d : Bool) → (b && d) ≡ true → b ≡ true
 and-left true d e = refl
 and-left false d e = e
+
+-- and of its second
+pub and-right : (b d : Bool) → (b && d) ≡ true → d ≡ true
+and-right true d e = e
+and-right false d e = cc

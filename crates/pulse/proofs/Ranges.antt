@@ -3,6 +3,7 @@ use mathlib.Core.Bool.{Bool}
 use Prim.Native.Nat.{ℕ, _≤_}
 use native.Mathlib.Omega.{arith}
 use borrow.Author.Tests.{leb-true}
+use Rattle.ground.specs.Pick.{pick}
 use Rattle.ground.proofs.Cases.{pick-holds, both-ways, and-left}
 use Rattle.parts.specs.Envelope as envelope
 use Rattle.parts.specs.declared.envelope.Envelope.{Envelope}
@@ -133,3 +134,9 @@ pulse-sweep-clocked-held p h =
 pub pulse-output-le : (p : PulseChannel) → pulse.Held p → pulse.outputOf p ≤ 15
 unfolding pulse.outputOf
 pulse-output-le p h = both-ways (λ (n : ℕ). n ≤ 15) _ (h .envelope .current) (omega arith)
+
+-- FF10 has seven bits
+pub sweep-byte-le : (s : Sweep) → sweep.byteOf s ≤ 127
+sweep-byte-le s =
+    let h : pick (s .negate) 8 0 ≤ 8 = both-ways (λ (n : ℕ). n ≤ 8) (s .negate) (omega arith) (omega arith) in
+    omega arith
