@@ -1,4 +1,5 @@
--- The groups of the sound unit.
+-- The rules of the groups, in reading order.
+pub mod Bits  -- register bits that several groups share
 pub mod PulseGroups
 pub mod WaveGroups
 pub mod NoiseGroups

@@ -10,4 +10,4 @@ new-spec =
     (λ c κs. search needs)
     (λ c κs. search needs)
     (λ c κs. search needs)
-    (λ c. rw (c .before .before .new .ensures, c .before .new2 .ensures, c .new3 .ensures)))
+    (λ c. rw (c .new3 .ensures, c .before .new2 .ensures, c .before .before .new .ensures)))
