@@ -1,2 +1,4 @@
 -- The laws of the sound unit. Assumes nothing.
-pub mod Ranges
+pub mod Ranges  -- the ranges of numbers
+pub mod Untouched  -- what no write touches
+pub mod Floats  -- the ranges of floats

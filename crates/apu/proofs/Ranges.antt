@@ -1,26 +1,32 @@
--- Units of either constructor hold their ranges, of numbers and of floats. Assumes nothing.
-use mathlib.Core.Path.{_≡_, refl, sym, _∙_}
+-- The ranges hold of both constructors' units, and what the rules make of a unit that holds them holds them again. Assumes nothing.
+use mathlib.Core.Path.{refl}
 use mathlib.Core.Bool.{Bool, true, false}
-use Prim.Native.Nat.{_^_}
-use native.Mathlib.Nat.{zero-mul}
+use Prim.Native.Nat.{ℕ, zero, suc, _-_, _%_, _≤_}
 use native.Mathlib.Omega.{arith}
-use lib.Dec.{lit<, lit≤}
-use lib.Pow.{pow-pos}
-use lib.Ieee.{binary64, ofBits, round}
-use lib.Ieee.Scale.{round-same}
-use Rattle.ground.specs.Units.{unitsOf}
-use Rattle.clocks.specs.Counter.{Kept}
-use Rattle.clocks.specs.Calls.{K}
-use Rattle.frame.proofs.Ranges.{fresh-held}
+use lib.Dec.{lit≤}
+use lib.IntN.{ℤ}
+use Rattle.ground.proofs.Cases.{both-ways}
 use Rattle.parts.proofs.Ranges.{envelope-written-held, length-written-held, length-fresh-held}
 use Rattle.pulse.specs.Pulse as channel
 use Rattle.pulse.proofs.Ranges.{pulse-fresh-held, pulse-envelope-held, pulse-duty-held, pulse-on-held}
 use Rattle.groups.specs.PulseGroups as pulse
+use Rattle.groups.specs.WaveGroups as wave
 use Rattle.groups.specs.NoiseGroups as noise
+use Rattle.groups.specs.declared.pulse_group.PulseGroup.{PulseGroup}
+use Rattle.groups.specs.declared.wave_group.WaveGroup.{WaveGroup}
+use Rattle.groups.specs.declared.noise_group.NoiseGroup.{NoiseGroup}
 use Rattle.groups.proofs.Ranges.{pulse-group-fresh-held, wave-group-fresh-held, noise-group-fresh-held}
-use Rattle.apu.specs.Held.{Held, FloatsHeld}
+use Rattle.groups.proofs.Ranges as group
+use Rattle.clocks.specs.Position.{PositionHeld}
+use Rattle.apu.specs.Held.{Held}
+use Rattle.apu.specs.With.{withPulse1, withPulse2, withWave, withNoise, withGroups, withControl, withSelection, withPower, withClocks, withBit, withPosition}
 use Rattle.apu.specs.Start as start
+use Rattle.apu.specs.Registers.{soundWritten, gatedWritten, ramWritten, zeroed, silenced, poweredOff, restarted, refilled, poweredOn, powerWritten, writtenAt, writeOf}
+use Rattle.apu.specs.declared.Apu.{Apu}
+use Rattle.apu.specs.declared.registers.Written.{Written}
+use lib.Ieee.{Float}
 
+-- ---- the constructors
 pub new-held : (dmg : Bool) → Held (start.fresh dmg)
 unfolding start.fresh
 new-held dmg =
@@ -52,18 +58,98 @@ skipped-held dmg =
       clocks = omega arith;
     }
 
--- the f64 0.0 is no unit of 2 ^ -48
-bits-zero : ofBits binary64 0 ≡ round binary64 false 0 1
-unfolding ofBits round
-bits-zero = refl
+-- ---- one thing written anew
+module _ (a : Apu) (h : Held a) where
+  pub pulse1-held : (g : PulseGroup) → pulse.Held g → Held (withPulse1 a g)
+  pulse1-held g k = record { pulse1 = k; pulse2 = h .pulse2; wave = h .wave; noise = h .noise; position = h .position; clocks = h .clocks }
 
-zero-kept : Kept 48 K (ofBits binary64 0)
-zero-kept = record { units = 0; below = lit< tt; is = bits-zero ∙ sym (unfold unitsOf in round-same binary64 false 0 (2 ^ 48) 0 1 (pow-pos 48) (lit< tt) (sym (zero-mul (2 ^ 48)))) }
+  pulse2-held : (g : PulseGroup) → pulse.Held g → Held (withPulse2 a g)
+  pulse2-held g k = record { pulse1 = h .pulse1; pulse2 = k; wave = h .wave; noise = h .noise; position = h .position; clocks = h .clocks }
 
-pub new-floats : (dmg : Bool) → FloatsHeld (start.fresh dmg)
-unfolding start.fresh
-new-floats dmg = record { pulse1 = fresh-held; pulse2 = fresh-held; wave = fresh-held; noise = fresh-held; counter = zero-kept }
+  wave-held : (g : WaveGroup) → wave.Held g → Held (withWave a g)
+  wave-held g k = record { pulse1 = h .pulse1; pulse2 = h .pulse2; wave = k; noise = h .noise; position = h .position; clocks = h .clocks }
 
-pub skipped-floats : (dmg : Bool) → FloatsHeld (start.skipped dmg)
-unfolding start.skipped start.fresh
-skipped-floats dmg = record { pulse1 = fresh-held; pulse2 = fresh-held; wave = fresh-held; noise = fresh-held; counter = zero-kept }
+  noise-held : (g : NoiseGroup) → noise.Held g → Held (withNoise a g)
+  noise-held g k = record { pulse1 = h .pulse1; pulse2 = h .pulse2; wave = h .wave; noise = k; position = h .position; clocks = h .clocks }
+
+  pub groups-held : (p q : PulseGroup) (w : WaveGroup) (n : NoiseGroup) → pulse.Held p → pulse.Held q → wave.Held w → noise.Held n → Held (withGroups a p q w n)
+  groups-held p q w n hp hq hw hn = record { pulse1 = hp; pulse2 = hq; wave = hw; noise = hn; position = h .position; clocks = h .clocks }
+
+  control-held : (v : ℕ) → Held (withControl a v)
+  control-held v = record { pulse1 = h .pulse1; pulse2 = h .pulse2; wave = h .wave; noise = h .noise; position = h .position; clocks = h .clocks }
+
+  selection-held : (v : ℕ) → Held (withSelection a v)
+  selection-held v = record { pulse1 = h .pulse1; pulse2 = h .pulse2; wave = h .wave; noise = h .noise; position = h .position; clocks = h .clocks }
+
+  power-held : (on : Bool) → Held (withPower a on)
+  power-held on = record { pulse1 = h .pulse1; pulse2 = h .pulse2; wave = h .wave; noise = h .noise; position = h .position; clocks = h .clocks }
+
+  pub clocks-held : (counter : Float) (half : ℕ) → half ≤ 1 → Held (withClocks a counter half)
+  clocks-held counter half k = record { pulse1 = h .pulse1; pulse2 = h .pulse2; wave = h .wave; noise = h .noise; position = h .position; clocks = k }
+
+  pub bit-held : (bit : Bool) → Held (withBit a bit)
+  bit-held bit = record { pulse1 = h .pulse1; pulse2 = h .pulse2; wave = h .wave; noise = h .noise; position = h .position; clocks = h .clocks }
+
+  pub position-held : (z : ℤ) → PositionHeld z → Held (withPosition a z)
+  position-held z k = record { pulse1 = h .pulse1; pulse2 = h .pulse2; wave = h .wave; noise = h .noise; position = k; clocks = h .clocks }
+
+-- ---- writes and power
+pub sound-held : (a : Apu) (at v : ℕ) → v ≤ 255 → Held a → Held (soundWritten a at v)
+unfolding soundWritten
+sound-held a at v k h =
+    both-ways Held _ (pulse1-held a h _ (group.pulse-sweep-group-held (a .pulse1) (h .pulse1) v))
+    (both-ways Held _ (pulse1-held a h _ (group.pulse-written-held (a .pulse1) at (a .power) _ v k (h .pulse1)))
+    (both-ways Held _ (pulse2-held a h _ (group.pulse-written-held (a .pulse2) (at - 5) (a .power) _ v k (h .pulse2)))
+    (both-ways Held _ (wave-held a h _ (group.wave-written-held (a .wave) (at - 10) (a .«is_dmg») _ v k (h .wave)))
+    (both-ways Held _ (noise-held a h _ (group.noise-written-group-held (a .noise) (at - 15) _ v k (h .noise)))
+    (both-ways Held _ (control-held a h v) (selection-held a h v))))))
+
+gated-held : (a : Apu) (at v : ℕ) → v ≤ 255 → Held a → Held (gatedWritten a at v)
+unfolding gatedWritten
+gated-held a at v k h = both-ways Held _ (sound-held a at v k h) (both-ways Held _ h (both-ways Held _ (sound-held a at v k h) h))
+
+ram-held : (a : Apu) (at v : ℕ) → Held a → Held (ramWritten a at v)
+unfolding ramWritten
+ram-held a at v h = wave-held a h _ (group.wave-ram-held (a .wave) (h .wave) (a .«is_dmg») (at % 16) v)
+
+pub zeroed-held : (a : Apu) (n : ℕ) → Held a → Held (zeroed a n)
+unfolding zeroed
+zeroed-held a zero h = h
+zeroed-held a (suc n) h = sound-held (zeroed a n) n 0 (lit≤ tt) (zeroed-held a n h)
+
+silenced-held : (a : Apu) → Held a → Held (silenced a)
+unfolding silenced
+silenced-held a h =
+    power-held _
+    (groups-held a h _ _ _ _ (group.pulse-silenced-held (a .pulse1) (h .pulse1)) (group.pulse-silenced-held (a .pulse2) (h .pulse2)) (group.wave-silenced-held (a .wave) (h .wave)) (group.noise-silenced-held (a .noise) (h .noise)))
+    false
+
+restarted-held : (a : Apu) → Held a → Held (restarted a)
+unfolding restarted
+restarted-held a h =
+    power-held _
+    (position-held _
+    (groups-held a h _ _ _ _ (group.pulse-rewound-held (a .pulse1) (h .pulse1)) (group.pulse-rewound-held (a .pulse2) (h .pulse2)) (group.wave-rewound-held (a .wave) (h .wave)) (h .noise))
+    _ (both-ways PositionHeld (a .«divider_sequencer_clock_bit») refl (omega arith)))
+    true
+
+refilled-held : (a : Apu) → Held a → Held (refilled a)
+unfolding refilled
+refilled-held a h =
+    groups-held a h _ _ _ _ (group.pulse-refilled-held (a .pulse1) (h .pulse1)) (group.pulse-refilled-held (a .pulse2) (h .pulse2)) (group.wave-refilled-held (a .wave) (h .wave)) (group.noise-refilled-held (a .noise) (h .noise))
+
+power-written-held : (a : Apu) (v : ℕ) → Held a → Held (powerWritten a v)
+unfolding powerWritten poweredOn poweredOff
+power-written-held a v h =
+    both-ways Held _
+    (both-ways Held _ h (both-ways Held _ (restarted-held a h) (refilled-held _ (restarted-held a h))))
+    (both-ways Held _ (silenced-held _ (zeroed-held a 22 h)) h)
+
+pub written-at-held : (a : Apu) (at v : ℕ) → v ≤ 255 → Held a → Held (writtenAt a at v)
+unfolding writtenAt
+written-at-held a at v k h =
+    both-ways Held _ (gated-held a at v k h) (both-ways Held _ (power-written-held a v h) (both-ways Held _ h (ram-held a at v h)))
+
+pub write-held : (a : Apu) (addr v : ℕ) → v ≤ 255 → Held a → Held (writeOf a addr v .apu)
+unfolding writeOf
+write-held a addr v k h = both-ways (λ (w : Written). Held (w .apu)) _ (written-at-held a (addr - 0xFF10) v k h) h

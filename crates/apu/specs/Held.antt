@@ -1,18 +1,12 @@
 -- The ranges of the sound unit, made of its parts'. That is all that a call may ask of a state. Assumes nothing.
-use mathlib.Core.Path.{_≡_}
 use Prim.Native.Nat.{_≤_}
-use lib.IntN.{ℤ, pos, negsuc}
 use Rattle.clocks.specs.Counter.{Kept}
 use Rattle.clocks.specs.Calls.{K}
 use Rattle.groups.specs.PulseGroups as pulse
 use Rattle.groups.specs.WaveGroups as wave
 use Rattle.groups.specs.NoiseGroups as noise
+use Rattle.clocks.specs.Position.{PositionHeld}
 use Rattle.apu.specs.declared.Apu.{Apu}
-
--- "sequencer -1..7"
-abbrev pub PositionHeld : ℤ → Type 0
-PositionHeld (pos n) = n ≤ 7
-PositionHeld (negsuc n) = n ≡ 0
 
 -- "Ranges held from the start"; "half-clocks 0..1"
 pub record Held (a : Apu) : Type 0 where

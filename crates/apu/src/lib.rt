@@ -1,4 +1,6 @@
-// The sound unit: `Apu` of apu.rs.
+// The sound unit: `Apu` of apu.rs, its record and constructors here, the rest by part.
+pub mod registers; // registers.rt: reads, writes and power
+
 ghost use mathlib.Core.Path.{_≡_};
 ghost use Rattle.apu.specs.Start.{fresh, skipped};
 use groups::noise_group::NoiseGroup;

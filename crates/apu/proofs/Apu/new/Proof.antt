@@ -13,4 +13,4 @@ new-spec =
     (λ c κs. search needs)
     (λ c κs. search needs)
     (λ c κs. search needs)
-    (λ c. rw (c .before .before .before .new .ensures, c .before .before .new2 .ensures, c .before .new3 .ensures, c .new4 .ensures)))
+    (λ c. rw (c .new4 .ensures, c .before .new3 .ensures, c .before .before .new2 .ensures, c .before .before .before .new .ensures)))

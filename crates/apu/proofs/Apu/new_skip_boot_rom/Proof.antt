@@ -14,4 +14,4 @@ new-skip-boot-rom-spec =
     (λ c κs. search needs)
     (λ c κs. search needs)
     (λ c κs. search needs)
-    (λ c. rw (c .before .before .before .set-enable .ensures, c .before .before .before .before .write-pattern-duty .ensures, c .before .before .before .before .before .write-envelope-register .ensures, c .write-sound-length .ensures, c .before .before .before .before .before .before .before .before .before .new .ensures)))
+    (λ c. rw (c .write-sound-length .ensures, c .before .before .before .set-enable .ensures, c .before .before .before .before .write-pattern-duty .ensures, c .before .before .before .before .before .write-envelope-register .ensures, c .before .before .before .before .before .before .before .before .before .new .ensures)))

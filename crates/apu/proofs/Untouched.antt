@@ -1,0 +1,82 @@
+-- What no write and no power change touches: the half-clocks, the sample counter and the four converters. Assumes nothing.
+use mathlib.Core.Path.{_≡_, refl, _∙_}
+use Prim.Native.Nat.{ℕ, zero, suc, _-_}
+use Rattle.ground.proofs.Cases.{both-ways}
+use Rattle.groups.specs.PulseGroups as pulse
+use Rattle.groups.specs.WaveGroups as wave
+use Rattle.groups.specs.NoiseGroups as noise
+use Rattle.groups.proofs.Untouched.{pulse-untouched, wave-untouched, noise-untouched}
+use Rattle.apu.specs.Registers.{soundWritten, gatedWritten, ramWritten, zeroed, silenced, poweredOff, restarted, refilled, poweredOn, powerWritten, writtenAt, writeOf}
+use Rattle.apu.specs.declared.Apu.{Apu}
+use Rattle.apu.specs.declared.registers.Written.{Written}
+
+pub record Untouched (a b : Apu) : Type 0 where
+  pub half : b .«clocks_counter» ≡ a .«clocks_counter»
+  pub counter : b .«sample_counter» ≡ a .«sample_counter»
+  pub pulse1 : b .pulse1 .converter ≡ a .pulse1 .converter
+  pub pulse2 : b .pulse2 .converter ≡ a .pulse2 .converter
+  pub wave : b .wave .converter ≡ a .wave .converter
+  pub noise : b .noise .converter ≡ a .noise .converter
+
+pub same : (a : Apu) → Untouched a a
+same a = record { half = refl; counter = refl; pulse1 = refl; pulse2 = refl; wave = refl; noise = refl }
+
+pub then : {a b c : Apu} → Untouched a b → Untouched b c → Untouched a c
+then p q = record {
+  half = q .half ∙ p .half;
+  counter = q .counter ∙ p .counter;
+  pulse1 = q .pulse1 ∙ p .pulse1;
+  pulse2 = q .pulse2 ∙ p .pulse2;
+  wave = q .wave ∙ p .wave;
+  noise = q .noise ∙ p .noise;
+}
+
+sound : (a : Apu) (at v : ℕ) → Untouched a (soundWritten a at v)
+unfolding soundWritten pulse.sweepWritten
+sound a at v =
+    both-ways (Untouched a) _ (record { half = refl; counter = refl; pulse1 = refl; pulse2 = refl; wave = refl; noise = refl })
+    (both-ways (Untouched a) _ (record { half = refl; counter = refl; pulse1 = pulse-untouched (a .pulse1) at (a .power) _ v; pulse2 = refl; wave = refl; noise = refl })
+    (both-ways (Untouched a) _ (record { half = refl; counter = refl; pulse1 = refl; pulse2 = pulse-untouched (a .pulse2) (at - 5) (a .power) _ v; wave = refl; noise = refl })
+    (both-ways (Untouched a) _ (record { half = refl; counter = refl; pulse1 = refl; pulse2 = refl; wave = wave-untouched (a .wave) (at - 10) (a .«is_dmg») _ v; noise = refl })
+    (both-ways (Untouched a) _ (record { half = refl; counter = refl; pulse1 = refl; pulse2 = refl; wave = refl; noise = noise-untouched (a .noise) (at - 15) _ v })
+    (both-ways (Untouched a) _ (record { half = refl; counter = refl; pulse1 = refl; pulse2 = refl; wave = refl; noise = refl }) (record { half = refl; counter = refl; pulse1 = refl; pulse2 = refl; wave = refl; noise = refl }))))))
+
+zeroes : (a : Apu) (n : ℕ) → Untouched a (zeroed a n)
+unfolding zeroed
+zeroes a zero = same a
+zeroes a (suc n) = then (zeroes a n) (sound (zeroed a n) n 0)
+
+silent : (a : Apu) → Untouched a (silenced a)
+unfolding silenced pulse.silenced wave.silenced noise.silenced
+silent a = record { half = refl; counter = refl; pulse1 = refl; pulse2 = refl; wave = refl; noise = refl }
+
+started : (a : Apu) → Untouched a (restarted a)
+unfolding restarted pulse.rewound wave.rewound
+started a = record { half = refl; counter = refl; pulse1 = refl; pulse2 = refl; wave = refl; noise = refl }
+
+full : (a : Apu) → Untouched a (refilled a)
+unfolding refilled pulse.refilled wave.refilled noise.refilled
+full a = record { half = refl; counter = refl; pulse1 = refl; pulse2 = refl; wave = refl; noise = refl }
+
+gated : (a : Apu) (at v : ℕ) → Untouched a (gatedWritten a at v)
+unfolding gatedWritten
+gated a at v = both-ways (Untouched a) _ (sound a at v) (both-ways (Untouched a) _ (same a) (both-ways (Untouched a) _ (sound a at v) (same a)))
+
+powered : (a : Apu) (v : ℕ) → Untouched a (powerWritten a v)
+unfolding powerWritten poweredOn poweredOff
+powered a v =
+    both-ways (Untouched a) _
+    (both-ways (Untouched a) _ (same a) (both-ways (Untouched a) _ (started a) (then (started a) (full (restarted a)))))
+    (both-ways (Untouched a) _ (then (zeroes a 22) (silent (zeroed a 22))) (same a))
+
+stored : (a : Apu) (at v : ℕ) → Untouched a (ramWritten a at v)
+unfolding ramWritten wave.ramWritten
+stored a at v = record { half = refl; counter = refl; pulse1 = refl; pulse2 = refl; wave = refl; noise = refl }
+
+-- a write, accepted or refused
+pub write-untouched : (a : Apu) (addr v : ℕ) → Untouched a (writeOf a addr v .apu)
+unfolding writeOf writtenAt
+write-untouched a addr v =
+    both-ways (λ (w : Written). Untouched a (w .apu)) _
+    (both-ways (Untouched a) _ (gated a (addr - 0xFF10) v) (both-ways (Untouched a) _ (powered a v) (both-ways (Untouched a) _ (same a) (stored a (addr - 0xFF10) v))))
+    (same a)
