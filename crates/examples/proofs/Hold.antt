@@ -6,6 +6,9 @@ use Rattle.ground.specs.Num.{reloadOf}
 use Rattle.clocks.proofs.Conserved.{frames-by-formula}
 use Rattle.frame.specs.Converter as converter
 use Rattle.frame.specs.Mixing.{sideOf}
+use Rattle.groups.specs.PulseGroups.{byteOf}
+use Rattle.apu.specs.Start.{fresh, skipped}
+use Rattle.apu.specs.Registers.{readOf, byteAt, statusByte}
 use Rattle.pulse.specs.Sweep as sweep
 use Rattle.pulse.specs.Pulse as pulse
 use Rattle.wave.specs.Wave as wave
@@ -13,7 +16,7 @@ use Rattle.noise.specs.Noise as noise
 use Rattle.examples.specs.Marked.{AllHold, end, _and_, marked}
 
 pub marked-hold : AllHold marked
-unfolding pick reloadOf pulse.enveloped pulse.sweepWritten pulse.triggered pulse.sweepClocked sweep.triggered sweep.started sweep.checked sweep.calculated sweep.targetOf sweep.clocked sweep.expired sweep.reloaded sweep.updated sweep.stored
+unfolding pick reloadOf fresh skipped readOf byteAt statusByte byteOf pulse.enveloped pulse.sweepWritten pulse.triggered pulse.sweepClocked sweep.triggered sweep.started sweep.checked sweep.calculated sweep.targetOf sweep.clocked sweep.expired sweep.reloaded sweep.updated sweep.stored
     noise.reloadOf noise.divisorOf noise.steppedRegister noise.feedbackOf noise.putBit wave.triggered wave.bufferAtTrigger wave.rewritten wave.fourFrom
     converter.stepped sideOf toBits div sub mul add ofInt ofBits
 marked-hold =
@@ -24,6 +27,7 @@ marked-hold =
     and frames-by-formula 262144
     and frames-by-formula 262145
     and frames-by-formula 1048576
+    and refl and refl and refl and refl and refl and refl
     and refl and refl
     and refl and refl and refl
     and refl and refl and refl and refl and refl

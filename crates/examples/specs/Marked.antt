@@ -1,5 +1,5 @@
 -- The marked examples of document 01, in its order and numbering, as ONE list. A row has the example's number, what the rules give, and what the
--- document says; yes and no are 1 and 0. Example 4 waits for the unit's registers. Assumes nothing.
+-- document says; yes and no are 1 and 0. Assumes nothing.
 use mathlib.Core.Path.{_≡_}
 use mathlib.Core.Bool.{Bool, true, false}
 use mathlib.Core.List.{List, [], _∷_}
@@ -10,6 +10,9 @@ use Rattle.clocks.specs.Counter.{everyAt}
 use Rattle.clocks.specs.Calls.{normal, run, fresh, times}
 use Rattle.frame.specs.Converter as converter
 use Rattle.frame.specs.Mixing.{sideOf}
+use Rattle.apu.specs.Start.{skipped}
+use Rattle.apu.specs.Registers.{readOf}
+use Rattle.apu.specs.Answers.{returnedOfRead}
 use Rattle.pulse.specs.Pulse as pulse
 use Rattle.pulse.specs.With as pulses
 use Rattle.wave.specs.Wave as wave
@@ -36,6 +39,10 @@ pub data AllHold : List Row → Type 0 where
 -- 1 to 3: the frames that n working clocks make
 abbrev pub framesAfter : ℕ → ℕ
 framesAfter n = run (everyAt 44100) (times n normal) fresh .frames
+
+-- 4: what a unit past its boot program, on DMG or not, reads at an address
+abbrev booted : Bool → ℕ → ℕ
+booted dmg addr = returnedOfRead (readOf (skipped dmg) addr)
 
 -- 5 and 6: a fresh pulse with its DAC on, FF10 and a frequency written, then triggered; whether it is on
 abbrev started : ℕ → ℕ → PulseChannel
@@ -76,6 +83,13 @@ marked =
     ∷ row 2 (framesAfter 262145) 11025
     -- 3. "1,048,576: 44,099."
     ∷ row 3 (framesAfter 1048576) 44099
+    -- 4. "`new_skip_boot_rom`: FF11 BF, FF12 F3, FF24 77, FF25 F3, FF26 F1."
+    ∷ row 4 (booted true 0xFF11) 0xBF
+    ∷ row 4 (booted true 0xFF12) 0xF3
+    ∷ row 4 (booted true 0xFF24) 0x77
+    ∷ row 4 (booted true 0xFF25) 0xF3
+    ∷ row 4 (booted true 0xFF26) 0xF1
+    ∷ row 4 (booted false 0xFF26) 0xF1
     -- 5. "Trigger with DAC on, add, shift 1: 1365 stays on, 1366 goes off."
     ∷ row 5 (on (started 0x01 1365)) 1
     ∷ row 5 (on (started 0x01 1366)) 0

@@ -1,0 +1,6 @@
+-- The laws of the clock call. Assumes nothing.
+pub mod Ranges  -- the ranges of numbers
+pub mod Calling  -- the ways of a clock call
+pub mod Untouched  -- what no channel or sequencer clock touches
+pub mod Floats  -- the ranges of floats
+pub mod Demand3  -- frames and remainder by the formula, over any calls

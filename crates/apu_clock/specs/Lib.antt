@@ -1,0 +1,5 @@
+-- The clock call, in reading order.
+pub mod Sequencer  -- what follows the sample counter in a working clock
+pub mod Clocking  -- the clock call
+pub mod Answers  -- document 01's numbers for each answer
+pub mod Uses  -- any row of calls, as demand 3 speaks of it
