@@ -122,7 +122,7 @@ fn join(high: u8, low: u8) -> u16 {
 }
 
 fn main() {
-    let mut bytes = io::buffer();
+    let mut bytes = io::large_buffer();
     let n = io::read_full(0, &mut bytes);
     let mut unit = Apu::new(true);
     let mut at: usize = 0;

@@ -10,14 +10,14 @@ use Rattle.sequences.proofs.main.Tie as tie
 
 record Going (n : ℕ) (unit : Apu) (at : ℕ) : Type 0 where
   held : Held unit
-  within : n ≤ 4096
-  place : at ≤ 4096
+  within : n ≤ 65536
+  place : at ≤ 65536
 
 abbrev Inv-loop : tie.InvT-loop
 Inv-loop bytes n unit₀ at₀ unit at = Going n unit at
 
 abbrev μ-loop : tie.MeasureT-loop
-μ-loop bytes n unit₀ at₀ unit at = 4096 - at
+μ-loop bytes n unit₀ at₀ unit at = 65536 - at
 
 pub main-spec : {M : Type 1} → statement M
 main-spec =
