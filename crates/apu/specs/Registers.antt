@@ -5,9 +5,9 @@ use lib.Dec.{eqb, ltb, leb}
 use lib.IntN.{pos, negsuc}
 use Rattle.ground.specs.Pick.{pick}
 use Rattle.pulse.specs.Sweep as sweep
-use Rattle.pulse.specs.Pulse as pulsing
-use Rattle.wave.specs.Wave as waving
-use Rattle.noise.specs.Noise as hissing
+use Rattle.pulse.specs.Pulse as pulseChannel
+use Rattle.wave.specs.Wave as waveChannel
+use Rattle.noise.specs.Noise as noiseChannel
 use Rattle.groups.specs.PulseGroups as pulse
 use Rattle.groups.specs.WaveGroups as wave
 use Rattle.groups.specs.NoiseGroups as noise
@@ -48,7 +48,7 @@ byteAt a at =
     (pick (eqb at 21) (a .«channels_selection»)
     (pick (eqb at 22) (statusByte a)
     (pick (ltb at 32) 0xFF
-    (waving.byteAt (a .wave .channel) (a .«is_dmg») (at % 16))))))))))
+    (waveChannel.byteAt (a .wave .channel) (a .«is_dmg») (at % 16))))))))))
 
 -- a read of any address; refusal 1 outside FF10..FF3F
 unfoldable pub readOf : Apu → ℕ → Read
@@ -56,10 +56,10 @@ readOf a addr = pick (isSound addr) (Byte (byteAt a (addr - 0xFF10))) read.Wrong
 
 -- "PCM reads: pulse 2 over pulse 1; noise over wave"
 unfoldable pub pcm12Of : Apu → ℕ
-pcm12Of a = pulsing.outputOf (a .pulse2 .channel) % 16 * 16 + pulsing.outputOf (a .pulse1 .channel) % 16
+pcm12Of a = pulseChannel.outputOf (a .pulse2 .channel) % 16 * 16 + pulseChannel.outputOf (a .pulse1 .channel) % 16
 
 unfoldable pub pcm34Of : Apu → ℕ
-pcm34Of a = hissing.outputOf (a .noise .channel) % 16 * 16 + waving.outputOf (a .wave .channel) % 16
+pcm34Of a = noiseChannel.outputOf (a .noise .channel) % 16 * 16 + waveChannel.outputOf (a .wave .channel) % 16
 
 -- ---- writes
 

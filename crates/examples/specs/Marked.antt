@@ -14,9 +14,9 @@ use Rattle.apu.specs.Start.{skipped}
 use Rattle.apu.specs.Registers.{readOf}
 use Rattle.apu.specs.Answers.{returnedOfRead}
 use Rattle.pulse.specs.Pulse as pulse
-use Rattle.pulse.specs.With as pulses
+use Rattle.pulse.specs.With as pulseWith
 use Rattle.wave.specs.Wave as wave
-use Rattle.wave.specs.With as waves
+use Rattle.wave.specs.With as waveWith
 use Rattle.noise.specs.Noise as noise
 use Rattle.pulse.specs.declared.pulse_channel.PulseChannel.{PulseChannel}
 
@@ -46,7 +46,7 @@ booted dmg addr = returnedOfRead (readOf (skipped dmg) addr)
 
 -- 5 and 6: a fresh pulse with its DAC on, FF10 and a frequency written, then triggered; whether it is on
 abbrev started : ℕ → ℕ → PulseChannel
-started ff10 frequency = pulse.triggered (pulses.withFrequency (pulse.sweepWritten (pulse.enveloped pulse.fresh 0xF0) ff10) frequency)
+started ff10 frequency = pulse.triggered (pulseWith.withFrequency (pulse.sweepWritten (pulse.enveloped pulse.fresh 0xF0) ff10) frequency)
 
 abbrev on : PulseChannel → ℕ
 on p = asNumber (p .«channel_enabled»)
@@ -64,7 +64,7 @@ abbrev bytes : List ℕ
 bytes = 16 ∷ 17 ∷ 18 ∷ 19 ∷ 20 ∷ 21 ∷ 22 ∷ 23 ∷ 24 ∷ 25 ∷ 26 ∷ 27 ∷ 28 ∷ 29 ∷ 30 ∷ 31 ∷ []
 
 abbrev byte : ℕ → ℕ → ℕ
-byte position i = getD (wave.triggered (waves.withPosition (waves.withBuffer wave.fresh bytes) position) true .buffer) i 0
+byte position i = getD (wave.triggered (waveWith.withPosition (waveWith.withBuffer wave.fresh bytes) position) true .buffer) i 0
 
 -- 10: a channel's sample, as a pattern
 abbrev sample : ℕ → ℕ → ℕ

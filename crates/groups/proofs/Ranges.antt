@@ -7,7 +7,7 @@ use Rattle.frame.proofs.Ranges.{stepped-held}
 use Rattle.frame.specs.Mixing.{voiced}
 use Rattle.parts.specs.Length as length
 use Rattle.parts.proofs.Ranges.{envelope-clocked-held, length-fresh-held, length-written-held, length-reset-held, length-clocked-held, length-enabling-held, length-triggered-held}
-use Rattle.pulse.specs.Pulse as pulsing
+use Rattle.pulse.specs.Pulse as pulseChannel
 use Rattle.pulse.proofs.Ranges.{pulse-fresh-held, pulse-duty-held, pulse-envelope-held, pulse-frequency-held, pulse-position-held, pulse-on-held, pulse-sweep-written-held, pulse-clocked-held, pulse-enveloped-held, pulse-sweep-clocked-held, pulse-triggered-held, pulse-output-le}
 use Rattle.wave.proofs.Ranges.{wave-fresh-held, wave-volume-held, wave-frequency-held, wave-position-held, wave-on-held, wave-dac-held, wave-stored-held, wave-clocked-held, wave-triggered-held, wave-output-le}
 use Rattle.noise.proofs.Ranges.{noise-fresh-held, noise-written-held, noise-envelope-held, noise-on-held, noise-clocked-held, noise-triggered-held, noise-enveloped-held, noise-output-le}
@@ -38,7 +38,7 @@ module _ (g : PulseGroup) (h : pulse.Held g) where
   pulse-length-held : (power : Bool) (v : ℕ) → pulse.Held (pulse.lengthWritten g power v)
   unfolding pulse.lengthWritten
   pulse-length-held power v =
-      record { length = length-written-held 64 (g .length) (h .length) (v % 64); channel = both-ways pulsing.Held power (pulse-duty-held (g .channel) (h .channel) (v / 64)) (h .channel) }
+      record { length = length-written-held 64 (g .length) (h .length) (v % 64); channel = both-ways pulseChannel.Held power (pulse-duty-held (g .channel) (h .channel) (v / 64)) (h .channel) }
 
   pulse-envelope-written-held : (v : ℕ) → v ≤ 255 → pulse.Held (pulse.envelopeWritten g v)
   unfolding pulse.envelopeWritten

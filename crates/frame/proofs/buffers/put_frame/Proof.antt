@@ -19,4 +19,4 @@ put-frame-spec =
     (λ c. search needs)
     (λ c. search needs)
     (λ c. search needs)
-    (λ c. cc))
+    (λ c. rw (c .before .before .put-sides5 .ensures, c .before .before .before .before .before .before .put-sides4 .ensures, c .before .before .before .before .before .before .before .before .before .before .put-sides3 .ensures, c .before .before .before .before .before .before .before .before .before .before .before .before .before .before .put-sides2 .ensures, c .before .before .before .before .before .before .before .before .before .before .before .before .before .before .before .before .before .before .put-sides .ensures)))

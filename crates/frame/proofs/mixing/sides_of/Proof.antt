@@ -11,4 +11,4 @@ sides-of-spec =
     (tie.spec
     (λ c κs. search needs)
     (λ c κs. search needs)
-    (λ c. cc))
+    (λ c. rw (c .side-of2 .ensures, c .before .side-of .ensures)))
