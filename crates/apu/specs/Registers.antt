@@ -4,6 +4,7 @@ use mathlib.Core.Bool.{Bool, true, false, _&&_}
 use lib.Dec.{eqb, ltb, leb}
 use lib.IntN.{pos, negsuc}
 use Rattle.ground.specs.Pick.{pick}
+use Rattle.ground.specs.Num.{isSound}
 use Rattle.pulse.specs.Sweep as sweep
 use Rattle.pulse.specs.Pulse as pulseChannel
 use Rattle.wave.specs.Wave as waveChannel
@@ -20,10 +21,6 @@ use Rattle.apu.specs.declared.registers.Read.the-variants as read
 use Rattle.apu.specs.declared.registers.Written.{Written}
 use Rattle.apu.specs.declared.registers.Write.the-variants.{Done}
 use Rattle.apu.specs.declared.registers.Write.the-variants as write
-
--- "FF10..FF3F"
-abbrev pub isSound : ℕ → Bool
-isSound addr = leb 0xFF10 addr && leb addr 0xFF3F
 
 -- ---- reads
 

@@ -1,11 +1,12 @@
 // The registers of the unit: `read_register`, `write_register`, the PCM reads and power of apu.rs.
 ghost use mathlib.Core.Path.{_≡_};
 ghost use Prim.Native.Nat.{_-_};
+ghost use Rattle.ground.specs.Num.{isSound};
 ghost use Rattle.ground.specs.Pick.{pick};
 ghost use Rattle.apu.specs.Held.{Held};
 ghost use Rattle.clocks.specs.Position.{nextEven};
 ghost use Rattle.apu.specs.Answers.{refusalOfRead, returnedOfRead, refusalOfWrite, returnedOfWrite};
-ghost use Rattle.apu.specs.Registers.{isSound, statusByte, byteAt, readOf, pcm12Of, pcm34Of, soundWritten, gatedWritten, ramWritten, zeroed, silenced, poweredOff, restarted, refilled, poweredOn, powerWritten, writtenAt, writeOf};
+ghost use Rattle.apu.specs.Registers.{statusByte, byteAt, readOf, pcm12Of, pcm34Of, soundWritten, gatedWritten, ramWritten, zeroed, silenced, poweredOff, restarted, refilled, poweredOn, powerWritten, writtenAt, writeOf};
 use crate::Apu;
 use clocks::position::next_position;
 use ground::num::flag;

@@ -26,7 +26,7 @@ use Rattle.apu.proofs.Untouched.{write-untouched}
 use Rattle.apu_clock.proofs.Untouched.{finish-untouched}
 
 -- N
-abbrev n : Float
+abbrev pub n : Float
 n = everyAt 44100
 
 -- reads and writes leave the clocks
@@ -38,7 +38,7 @@ write-leaves : (w : Write) (m : Clocks) → call n (writeKind w) m ≡ m
 write-leaves Done m = refl
 write-leaves writes.WrongAddress m = refl
 
-write-seen : (addr v : ℕ) (s : State) → see (step (write addr v) s) ≡ see s
+pub write-seen : (addr v : ℕ) (s : State) → see (step (write addr v) s) ≡ see s
 unfolding step
 write-seen addr v s =
     let u = write-untouched (s .apu) addr v in
@@ -59,13 +59,13 @@ unfolding passed
 passed-counter a counter half d v = finish-untouched _ d v .counter
 
 -- ---- the law of one clock call
-abbrev after : After → ℕ → Clocks
+abbrev pub after : After → ℕ → Clocks
 after r f = record { half = r .clocked .apu .«clocks_counter»; counter = r .clocked .apu .«sample_counter»; frames = counted (r .clocked .answer) f }
 
-abbrev before : Apu → ℕ → Clocks
+abbrev pub before : Apu → ℕ → Clocks
 before a f = record { half = a .«clocks_counter»; counter = a .«sample_counter»; frames = f }
 
-abbrev Law : Apu → ℕ → Bool → After → Type 0
+abbrev pub Law : Apu → ℕ → Bool → After → Type 0
 Law a f d r = after r f ≡ call n (clockKind d (r .clocked .answer)) (before a f)
 
 module _ (a : Apu) (f : ℕ) (d : Bool) (v place : ℕ) (b : Buffers) (long : ltb (a .«clocks_counter» + halfClocksOf d) 2 ≡ false) where
@@ -85,7 +85,7 @@ module _ (a : Apu) (f : ℕ) (d : Bool) (v place : ℕ) (b : Buffers) (long : lt
       (λ m. pick-holds (Law a f d) _ _ _ (λ _. framed-law m b) (λ _. refl))
       (λ m. plain-law m)
 
-clock-law : (a : Apu) (f : ℕ) (d : Bool) (v place : ℕ) (b : Buffers) → Law a f d (clockOf a d v place b)
+pub clock-law : (a : Apu) (f : ℕ) (d : Bool) (v place : ℕ) (b : Buffers) → Law a f d (clockOf a d v place b)
 unfolding clockOf
 clock-law a f d v place b =
     pick-holds (Law a f d) _ _ _

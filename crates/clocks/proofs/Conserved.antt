@@ -18,7 +18,7 @@ use Rattle.ground.proofs.Units.{exact}
 use Rattle.clocks.proofs.Working.{left, Room, tick-units}
 
 -- ---- quotient and remainder, known by their sum
-div-mod-is : (n K q r : ℕ) → r < K → n ≡ q * K + r → (n / K ≡ q) × (n % K ≡ r)
+pub div-mod-is : (n K q r : ℕ) → r < K → n ≡ q * K + r → (n / K ≡ q) × (n % K ≡ r)
 div-mod-is n K q r h e =
     let z : 0 < K = omega arith in (
       ap (λ (x : ℕ). x / K) e ∙ mul-add-div-right z q r ∙ ap (λ (x : ℕ). q + x) (div-eq-of-lt h) ∙ add-zero q,

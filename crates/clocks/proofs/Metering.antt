@@ -17,7 +17,7 @@ use Rattle.clocks.proofs.Working.{left, Room, tick-units}
 use Rattle.clocks.proofs.Conserved.{from-kept, every-units, room}
 
 -- the half-clocks of n calls at one speed
-gained-times : (d : Bool) (n : ℕ) → 2 * normals (times n (atSpeed d)) + doubles (times n (atSpeed d)) ≡ gained d n
+pub gained-times : (d : Bool) (n : ℕ) → 2 * normals (times n (atSpeed d)) + doubles (times n (atSpeed d)) ≡ gained d n
 unfolding normals doubles times
 gained-times true zero = refl
 gained-times false zero = refl

@@ -5,7 +5,7 @@ use lib.Ieee.{binary64}
 use Rattle.ground.specs.Units.{unitsOf}
 use Rattle.clocks.specs.declared.meter.Meter.{Meter}
 use Rattle.clocks.specs.declared.meter.Metered.{Metered}
-use Rattle.clocks.specs.Calls.{Clocks}
+use Rattle.clocks.specs.Calls.{Clocks, K}
 
 -- a meter's ranges: half-clocks 0..1, and a rest below N
 pub record Held (K : ℕ) (m : Meter) : Type 0 where
@@ -30,3 +30,7 @@ metered u K m double n =
 -- the clocks that a meter stands for, with so many frames made
 abbrev pub clocksOf : ℕ → Meter → ℕ → Clocks
 clocksOf u m frames = record { half = m .half; counter = unitsOf binary64 u (m .rest); frames = frames }
+
+-- the frames of so many half-clocks of a fresh unit: "exactly W times 2^48 divided by K, rounded down"
+unfoldable pub framesOf : ℕ → ℕ
+framesOf halves = halves / 2 * 2 ^ 48 / K

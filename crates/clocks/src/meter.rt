@@ -1,8 +1,8 @@
 // The sample counter as a whole number of 2^-48: frames of many clock calls are counted by a division, with no float and no loop.
 ghost use mathlib.Core.Path.{_≡_};
-ghost use Prim.Native.Nat.{_≤_};
+ghost use Prim.Native.Nat.{_≤_, min};
 ghost use Rattle.clocks.specs.Calls.{K};
-ghost use Rattle.clocks.specs.Metered.{Held, gained, fresh, metered};
+ghost use Rattle.clocks.specs.Metered.{Held, gained, fresh, metered, framesOf};
 
 // What a working clock adds: 2^48 units of 2^-48.
 const CLOCK_UNITS: u64 = 281474976710656;
@@ -31,6 +31,13 @@ fn gain(double: bool, count: u64) -> u64
     if double { count } else { count * 2 }
 }
 
+// The smaller of two numbers.
+fn at_most(n: u64, top: u64) -> u64
+    ensures { λ r. ⌜ r ≡ min n top ⌝ }
+{
+    if n < top { n } else { top }
+}
+
 impl Meter {
     // The meter of a fresh unit.
     pub fn new() -> Meter
@@ -55,4 +62,21 @@ impl Meter {
             },
         }
     }
+}
+
+// The frames that so many half-clocks make from a fresh unit, 16,384 of them at a time.
+pub fn frames_of(halves: u64) -> u64
+    ensures { λ r. ⌜ r ≡ framesOf halves ⌝ }
+{
+    let mut meter = Meter::new();
+    let mut frames: u64 = 0;
+    let mut left = halves;
+    while 0 < left {
+        let some = at_most(left, 16384);
+        let metered = meter.calls(true, some);
+        meter = metered.meter;
+        frames += metered.frames;
+        left -= some;
+    }
+    frames
 }

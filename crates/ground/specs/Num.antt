@@ -1,8 +1,13 @@
 -- Rules on small numbers that several parts share. Assumes nothing.
 use Prim.Native.Nat.{ℕ}
-use lib.Dec.{eqb}
+use mathlib.Core.Bool.{Bool, _&&_}
+use lib.Dec.{eqb, leb}
 use Rattle.ground.specs.Pick.{pick}
 
 -- "reloads (period, 0 as 8)"
 unfoldable pub reloadOf : ℕ → ℕ
 reloadOf period = pick (eqb period 0) 8 period
+
+-- the unit's own addresses: "FF10..FF3F"
+abbrev pub isSound : ℕ → Bool
+isSound addr = leb 0xFF10 addr && leb addr 0xFF3F

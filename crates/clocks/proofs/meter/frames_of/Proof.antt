@@ -1,0 +1,64 @@
+-- The half-clocks passed and those left are all of them, and at every turn meter and frames are those of the half-clocks passed. Assumes nothing.
+use borrow.Author.Needs.{needs}
+use native.Mathlib.Omega.{arith}
+use Rattle.clocks.proofs.Totals.{Going, begun, held, turn, few, ended}
+use Rattle.clocks.proofs.meter.frames_of.Statement.{statement}
+use Rattle.clocks.proofs.meter.frames_of.Tie as tie
+
+abbrev Inv-loop : tie.InvT-loop
+Inv-loop halves meter₀ frames₀ left₀ meter frames left = Going halves left meter frames
+
+abbrev μ-loop : tie.MeasureT-loop
+μ-loop halves meter₀ frames₀ left₀ meter frames left = left
+
+new-requires : tie.Need-new-requires Inv-loop μ-loop
+new-requires c κs =
+    search needs
+
+loop-holds : tie.Need-loop-holds Inv-loop μ-loop
+loop-holds c =
+    rw (c .new .ensures) (begun _)
+
+at-most-requires : tie.Need-at-most-requires Inv-loop μ-loop
+at-most-requires c κs =
+    search needs
+
+calls-requires : tie.Need-calls-requires Inv-loop μ-loop
+calls-requires c κs =
+    (held (c .before .before .loop .inv), omega (arith, c .at-most .ensures))
+
+add-frames : tie.Need-add-frames Inv-loop μ-loop
+add-frames c =
+    let l = few (c .before .before .before .before .before .loop .inv) (c .before .before .before .at-most .result) (omega (arith, c .before .before .before .at-most .ensures)) (c .before .before .calls .result) (c .before .before .calls .ensures) in omega (arith, l, c .before .before .before .before .before .before .before .fits .halves)
+
+sub-left : tie.Need-sub-left Inv-loop μ-loop
+sub-left c =
+    omega (arith, c .before .before .before .at-most .ensures)
+
+loop-less : tie.Need-loop-less Inv-loop μ-loop
+loop-less c =
+    omega (arith, c .before .before .before .at-most .ensures)
+
+loop-again : tie.Need-loop-again Inv-loop μ-loop
+loop-again c =
+    rw (c .before .before .calls .ensures) (turn (c .before .before .before .before .before .loop .inv) _ (omega (arith, c .before .before .before .at-most .ensures)))
+
+returns : tie.Need-returns Inv-loop μ-loop
+returns c =
+    ended (c .before .loop .inv) (omega arith)
+
+pub frames-of-spec : {M : Type 1} → statement M
+frames-of-spec =
+    tie.close
+    (tie.spec
+    Inv-loop
+    μ-loop
+    new-requires
+    loop-holds
+    at-most-requires
+    calls-requires
+    add-frames
+    sub-left
+    loop-less
+    loop-again
+    returns)
