@@ -1,0 +1,4 @@
+-- The laws of the scan and its answers. Assumes nothing.
+pub mod Bounds  -- the sums are small
+pub mod Counting  -- joining what records have
+pub mod Done  -- what a log that is played has

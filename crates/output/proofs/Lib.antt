@@ -1,0 +1,3 @@
+-- The laws of the output. Assumes nothing.
+pub mod Stores  -- runs of stores
+pub mod Samples  -- a run of samples, and a frame

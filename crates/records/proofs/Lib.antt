@@ -1,0 +1,2 @@
+-- The laws of records. Assumes nothing.
+pub mod Framing  -- walking a log

@@ -1,0 +1,73 @@
+-- The log as a row of records, each with its place, from document 01, "The access log". Assumes nothing.
+use Prim.Native.Nat.{ℕ, zero, suc, _+_, _-_, _≤_}
+use mathlib.Core.Path.{_≡_, refl}
+use mathlib.Core.List.{List, [], _∷_}
+use lib.ListN.{length, take, drop}
+use lib.Dec.{ltb, leb}
+use native.Mathlib.Omega.{arith}
+use borrow.Author.Tests.{le-leb}
+use Rattle.ground.specs.Pick.{pick}
+use Rattle.records.specs.declared.judge.Record.{Record}
+use Rattle.records.specs.declared.cut.Cut.{Cut}
+use Rattle.records.specs.declared.cut.Cut.the-variants.{End, Short, Body}
+use Rattle.records.specs.Judge.{word, judgeOf}
+
+-- "two length bytes, big-endian, and the body of that many bytes"; else the log ends here, or "a record cut short"
+unfoldable pub cutAt : List ℕ → ℕ → Cut
+cutAt s at =
+    pick (leb (length s) at) End
+    (pick (ltb (length s - at) 2) Short
+    (pick (ltb (length s - at - 2) (word s at)) Short (Body (word s at))))
+
+-- the body at a place: n bytes after the two of its length
+abbrev pub bodyAt : List ℕ → ℕ → ℕ → List ℕ
+bodyAt s at n = take n (drop (at + 2) s)
+
+-- the records in order, each with the place of its first length byte; the row ends where the log does, or at a record cut short
+pub data Parsed : Type 0 where
+  done : Parsed
+  short : ℕ → Parsed
+  item : ℕ → Record → Parsed → Parsed
+
+-- what stands at a place, before what is said of the next
+abbrev pub grow : List ℕ → ℕ → (ℕ → Parsed) → Cut → Parsed
+grow s at rest End = done
+grow s at rest Short = short at
+grow s at rest (Body n) = item at (judgeOf (bodyAt s at n)) (rest (at + 2 + n))
+
+-- by so many turns
+unfoldable pub parse : ℕ → List ℕ → ℕ → Parsed
+parse zero s at = done
+parse (suc f) s at = grow s at (parse f s) (cutAt s at)
+
+-- the records from a place on: no more than there are bytes
+unfoldable pub recordsFrom : List ℕ → ℕ → Parsed
+recordsFrom s at = parse (length s) s at
+
+grow-same : (s : List ℕ) (at : ℕ) (f g : ℕ → Parsed) (k : Cut) → ((n : ℕ) → f (at + 2 + n) ≡ g (at + 2 + n)) → grow s at f k ≡ grow s at g k
+grow-same s at f g End h = refl
+grow-same s at f g Short h = refl
+grow-same s at f g (Body n) h = rw (h n)
+
+-- turns enough are turns enough
+parse-same : (f g : ℕ) (s : List ℕ) (at : ℕ) → length s - at ≤ f → length s - at ≤ g → parse f s at ≡ parse g s at
+unfolding pick parse cutAt
+parse-same zero zero s at h k = refl
+parse-same zero (suc g) s at h k = let e : length s ≤ at = omega arith in simp (le-leb _ _ e)
+parse-same (suc f) zero s at h k = let e : length s ≤ at = omega arith in simp (le-leb _ _ e)
+parse-same (suc f) (suc g) s at h k = grow-same s at (parse f s) (parse g s) (cutAt s at) (λ n. parse-same f g s (at + 2 + n) (omega arith) (omega arith))
+
+-- THE LAW: the records from a place on are what stands there, before the records from the next place on
+pub records-step : (s : List ℕ) (at : ℕ) → recordsFrom s at ≡ grow s at (recordsFrom s) (cutAt s at)
+unfolding recordsFrom parse
+records-step s at = parse-same (length s) (suc (length s)) s at (omega arith) (omega arith)
+
+-- the records without their places
+abbrev pub unrolled : Parsed → List Record
+unrolled done = []
+unrolled (short p) = []
+unrolled (item p r rest) = r ∷ unrolled rest
+
+-- a log's records, which begin after version and start byte
+abbrev pub listed : List ℕ → List Record
+listed s = unrolled (recordsFrom s 2)

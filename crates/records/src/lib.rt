@@ -1,0 +1,3 @@
+// The records of an access log: where each one's body begins and ends, and what it says.
+pub mod cut; // cut.rt: where a record's body begins and ends
+pub mod judge; // judge.rt: what a body says
