@@ -1,0 +1,17 @@
+-- The two bits pick the constructor and the model. Assumes nothing.
+use borrow.Author.Needs.{needs}
+use borrow.Author.Tests.{eq-eqb, ne-eqb}
+use Rattle.ground.specs.Pick.{pick}
+use Rattle.log_player.specs.Playing.{started}
+use Rattle.log_player.proofs.play.start.Statement.{statement}
+use Rattle.log_player.proofs.play.start.Tie as tie
+
+pub start-spec : {M : Type 1} → statement M
+unfolding pick started
+start-spec =
+    tie.close
+    (tie.spec
+    (λ c κs. search needs)
+    (λ c κs. search needs)
+    (λ c. rw (c .new-skip-boot-rom .ensures, eq-eqb _ _ (c .before .if1 .taken)))
+    (λ c. rw (c .new .ensures, ne-eqb _ _ (c .before .if1 .left))))

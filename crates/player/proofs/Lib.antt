@@ -1,0 +1,2 @@
+-- The laws of the program. Assumes nothing.
+pub mod Showing  -- its loops

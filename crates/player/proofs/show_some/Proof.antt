@@ -1,0 +1,50 @@
+-- The calls are played from the front of `bytes`, which has room for a frame of each. Assumes nothing.
+use borrow.Author.Needs.{needs}
+use native.Mathlib.Omega.{arith}
+use mathlib.Core.Path.{ap}
+use denote.Ref.{now}
+use Rattle.log_player.specs.declared.play.Play.{Play}
+use Rattle.player.proofs.Showing.{some-room}
+use Rattle.output.proofs.Stores.{prefix-counts}
+use Rattle.player.proofs.show_some.Statement.{statement}
+use Rattle.player.proofs.show_some.Tie as tie
+
+play-clocks-requires : tie.Need-play-clocks-requires
+play-clocks-requires c κs =
+    (c .before .before .before .before .pre .0, some-room (c .before .before .before .before .args .double) (c .before .before .before .before .args .divider) (c .before .before .before .before .args .from) (c .before .before .before .before .args .to) (c .before .before .before .before .args .s .apu) (now (c .before .before .before .before .args .bytes)) (c .before .before .before .before .pre .1 .0) (c .before .before .before .before .pre .1 .1))
+
+slice-reshare-prefix-put-items : tie.Need-slice-reshare-prefix-put-items
+slice-reshare-prefix-put-items c =
+    let e = ap (λ (x : Play). x .at) (c .before .before .before .play-clocks .ensures .0) in let r = some-room (c .before .before .before .before .before .before .before .before .args .double) (c .before .before .before .before .before .before .before .before .args .divider) (c .before .before .before .before .before .before .before .before .args .from) (c .before .before .before .before .before .before .before .before .args .to) (c .before .before .before .before .before .before .before .before .args .s .apu) (now (c .before .before .before .before .before .before .before .before .args .bytes)) (c .before .before .before .before .before .before .before .before .pre .1 .0) (c .before .before .before .before .before .before .before .before .pre .1 .1) in let k = c .before .before .before .play-clocks .kept .1 .1 .1 .1 .1 .0 in omega (arith, e, r, k)
+
+slice-aggregate-put-items : tie.Need-slice-aggregate-put-items
+slice-aggregate-put-items c =
+    let e = ap (λ (x : Play). x .at) (c .before .before .before .before .play-clocks .ensures .0) in let r = some-room (c .before .before .before .before .before .before .before .before .before .args .double) (c .before .before .before .before .before .before .before .before .before .args .divider) (c .before .before .before .before .before .before .before .before .before .args .from) (c .before .before .before .before .before .before .before .before .before .args .to) (c .before .before .before .before .before .before .before .before .before .args .s .apu) (now (c .before .before .before .before .before .before .before .before .before .args .bytes)) (c .before .before .before .before .before .before .before .before .before .pre .1 .0) (c .before .before .before .before .before .before .before .before .before .pre .1 .1) in let k = c .before .before .before .before .play-clocks .kept .1 .1 .1 .1 .1 .0 in prefix-counts _ _ (omega (arith, e, r, k))
+
+put-items-requires : tie.Need-put-items-requires
+put-items-requires c κs =
+    search needs
+
+same-length : tie.Need-same-length
+same-length c =
+    c .before .before .before .before .before .before .before .before .play-clocks .kept .1 .1 .1 .1 .1 .0
+
+same-length-2 : tie.Need-same-length-2
+same-length-2 c =
+    c .before .before .put-items .kept .1 .1 .0
+
+returns : tie.Need-returns
+returns c =
+    ap (λ (x : Play). x .apu) (c .before .before .before .before .before .before .before .before .play-clocks .ensures .0)
+
+pub show-some-spec : {M : Type 1} → statement M
+show-some-spec =
+    tie.close
+    (tie.spec
+    play-clocks-requires
+    slice-reshare-prefix-put-items
+    slice-aggregate-put-items
+    put-items-requires
+    same-length
+    same-length-2
+    returns)
