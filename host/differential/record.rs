@@ -1,0 +1,81 @@
+//! Writes what the original answers to a sample of logs, for the program crates/replay.
+use crate::compare::digest;
+use crate::{generate, original};
+use std::io::Write;
+use std::path::Path;
+
+/// An output longer than this is recorded by its digest.
+const SHORT: usize = 300;
+
+/// A case: kind, refusal, log length in two bytes, number in four, the log, then the bytes (kind 1) or their digest (kind 2). Kind 0 names a family.
+fn put(file: &mut impl Write, log: &[u8]) -> std::io::Result<()> {
+    let head = |kind: u8, refusal: u64, number: u64| {
+        let mut head = vec![kind, refusal as u8];
+        head.extend((log.len() as u16).to_be_bytes());
+        head.extend((number as u32).to_be_bytes());
+        head
+    };
+    match original::play(log) {
+        Err(refused) => {
+            file.write_all(&head(1, refused.0, refused.1))?;
+            file.write_all(log)
+        }
+        Ok(answer) if answer.bytes.len() <= SHORT => {
+            file.write_all(&head(1, 0, answer.bytes.len() as u64))?;
+            file.write_all(log)?;
+            file.write_all(&answer.bytes)
+        }
+        Ok(answer) => {
+            file.write_all(&head(2, 0, answer.bytes.len() as u64))?;
+            file.write_all(log)?;
+            file.write_all(&digest(&answer.bytes).to_be_bytes())
+        }
+    }
+}
+
+fn name(file: &mut impl Write, name: &str) -> std::io::Result<()> {
+    file.write_all(&[0, 0, 0, name.len() as u8, 0, 0, 0, 0])?;
+    file.write_all(name.as_bytes())
+}
+
+/// Whether a log is small enough: its output fits the program's buffer, and its clocks an emulator's patience.
+fn small(log: &[u8], clocks: u64) -> bool {
+    log.len() <= 1500 && original::play(log).map_or(true, |answer| answer.bytes.len() <= 65536 && answer.clocks <= clocks)
+}
+
+/// The logs of a folder, then the first small logs of every family, so many of each.
+pub fn record(file: &Path, folder: &Path, seed: u64) -> std::io::Result<()> {
+    let mut out = std::io::BufWriter::new(std::fs::File::create(file)?);
+    name(&mut out, "documented")?;
+    let mut paths: Vec<_> = std::fs::read_dir(folder)?.map(|entry| Ok(entry?.path())).collect::<std::io::Result<_>>()?;
+    paths.sort();
+    for path in paths {
+        put(&mut out, &std::fs::read(path)?)?;
+    }
+    for (number, (family, _)) in generate::FAMILIES.iter().enumerate() {
+        name(&mut out, family)?;
+        let (many, clocks) = if number == 8 || number == 9 { (2, 900_000) } else { (18, 8_000) };
+        let logs = (0..).map(|index| generate::make(number, seed, index)).filter(|log| small(log, clocks) || number == 8 || number == 9);
+        for log in logs.take(many) {
+            put(&mut out, &shorten(log, clocks))?;
+        }
+    }
+    name(&mut out, "every register and byte")?;
+    for index in (0..generate::REGISTER_LOGS).step_by(generate::REGISTER_LOGS as usize / 16 - 13) {
+        put(&mut out, &generate::register_log(index))?;
+    }
+    name(&mut out, "every body of one record")?;
+    for index in (0..generate::BODY_LOGS).filter(|index| index % 4096 == 0x0F40 || index % 65536 == 0xFF3F || index % 65536 == 0xFF40 || (133500..133512).contains(index)) {
+        put(&mut out, &generate::body_log(index))?;
+    }
+    out.flush()
+}
+
+/// A log without the records past so many clocks or 1,500 frames.
+fn shorten(log: Vec<u8>, clocks: u64) -> Vec<u8> {
+    let Ok((start, mut records)) = crate::log::parse(&log) else { return log };
+    while original::play_records(start, &records).clocks > clocks.min(36_000) {
+        records.pop();
+    }
+    crate::log::bytes(start, &records)
+}

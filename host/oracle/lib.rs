@@ -1,0 +1,9 @@
+// The original's sound unit as a library: its own files beside this one, unchanged.
+#[allow(dead_code)]
+pub mod apu;
+
+// Of the original's configuration only the model is read.
+#[derive(Clone, Copy, Default)]
+pub struct GameBoyConfig {
+    pub is_dmg: bool,
+}
