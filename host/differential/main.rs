@@ -174,7 +174,7 @@ fn usage(error: &str) -> ! {
 }
 
 fn options() -> Options {
-    let mut options = Options { logs: 100_000, seed: 1, minutes: None, keep_going: false };
+    let mut options = Options { logs: 120_000, seed: 1, minutes: None, keep_going: false };
     let mut words = std::env::args().skip(1);
     while let Some(word) = words.next() {
         let mut value = || words.next().unwrap_or_else(|| usage(&format!("{word} takes a number")));
