@@ -5,6 +5,7 @@ use ground::num::flag;
 use ground::num::reload;
 use ground::num::saturating_sub;
 
+#[repr(C)]
 pub struct Envelope {
     pub starting_volume: u8,
     pub current_volume: u8,
