@@ -55,16 +55,17 @@ struct Run {
 
 /// One family, on every processor. Where the time is up or a log differs, it ends early.
 fn run_family(family: &Family, number: usize, options: &Options, until: Option<Instant>, run: &Mutex<Run>) {
-    let (next, stop, clocks) = (AtomicU64::new(0), AtomicBool::new(false), AtomicU64::new(0));
+    let (next, stop, clocks, shown) = (AtomicU64::new(0), AtomicBool::new(false), AtomicU64::new(0), AtomicU64::new(0));
     let threads = std::thread::available_parallelism().map_or(1, usize::from) as u64;
-    let chunk = (family.logs / threads / 8).clamp(1, 4096);
+    let chunk = (family.logs / threads / 64).clamp(1, 256);
+    let late = || until.is_some_and(|until| Instant::now() >= until);
     let terminal = std::io::stderr().is_terminal();
     let began = Instant::now();
     std::thread::scope(|scope| {
         for _ in 0..threads {
             scope.spawn(|| {
                 let (mut sums, mut differing, mut space) = (Sums::default(), 0, Vec::new());
-                while !stop.load(Relaxed) && until.is_none_or(|until| Instant::now() < until) {
+                while !stop.load(Relaxed) && !late() {
                     let from = next.fetch_add(chunk, Relaxed);
                     for index in from..family.logs.min(from.saturating_add(chunk)) {
                         let log = (family.make)(index);
@@ -80,14 +81,16 @@ fn run_family(family: &Family, number: usize, options: &Options, until: Option<I
                                 stop.store(!options.keep_going, Relaxed);
                             }
                         }
-                        if stop.load(Relaxed) {
+                        if stop.load(Relaxed) || late() {
                             break;
                         }
                     }
                     if from >= family.logs {
                         break;
                     }
-                    if terminal {
+                    // a line that updates, five times a second
+                    let tick = began.elapsed().as_millis() as u64 / 200;
+                    if terminal && shown.swap(tick, Relaxed) != tick {
                         let (done, clocks) = (next.load(Relaxed).min(family.logs), clocks.load(Relaxed) as f64 / 1e6);
                         eprint!("\r{}: {done} logs, {clocks:.0} million clocks, {:.0} s \x1b[K", family.name, began.elapsed().as_secs_f64());
                     }
