@@ -1,7 +1,7 @@
 // The lent envelope against the original's: every current volume and counter, both flags, and the numbers that matter of volume and period.
 mod original {
     // The original's file, unchanged, in this module, which may therefore read its fields.
-    include!(concat!(env!("ORIGINAL"), "/apu/envelope.rs"));
+    include!(concat!(env!("ORIGINAL"), "/envelope.rs"));
 
     impl crate::Lent {
         pub fn original(&self) -> EnvelopGenerator {
