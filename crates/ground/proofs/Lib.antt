@@ -3,3 +3,4 @@ pub mod Cases
 pub mod Rounded
 pub mod Units
 pub mod Same
+pub mod Timers

@@ -4,7 +4,7 @@ use mathlib.Core.Bool.{Bool, _&&_}
 use lib.Dec.{eqb, leb}
 use Rattle.ground.specs.Pick.{pick}
 
--- "reloads (period, 0 as 8)"
+-- of sweep and envelope: "reloads the counter (period, 0 as 8)"
 unfoldable pub reloadOf : ℕ → ℕ
 reloadOf period = pick (eqb period 0) 8 period
 

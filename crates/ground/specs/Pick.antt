@@ -1,4 +1,4 @@
--- Choice by a test, as the rules use it. It stays shut until a proof opens it, so that a law meets it as it is written. Assumes nothing.
+-- Choice by a test, as the rules use it. The library's `cond` means the same; this one stays as it is written until a proof opens it. Assumes nothing.
 use mathlib.Core.Bool.{Bool, true, false}
 
 -- the first where the test holds, else the second

@@ -10,19 +10,19 @@ use Rattle.noise.specs.Noise as noise
 use Rattle.noise.specs.With as with
 use Rattle.noise.specs.declared.noise_channel.NoiseChannel.{NoiseChannel}
 
-feedback-le : (r : ℕ) → noise.feedbackOf r ≤ 1
+pub feedback-le : (r : ℕ) → noise.feedbackOf r ≤ 1
 unfolding noise.feedbackOf
 feedback-le r = both-ways (λ (n : ℕ). n ≤ 1) _ (omega arith) (omega arith)
 
-register-le : (r : ℕ) (narrow : Bool) → r ≤ 0x7FFF → noise.steppedRegister r narrow ≤ 0x7FFF
+pub register-le : (r : ℕ) (narrow : Bool) → r ≤ 0x7FFF → noise.steppedRegister r narrow ≤ 0x7FFF
 unfolding noise.steppedRegister noise.putBit
 register-le r narrow h =
     let x = feedback-le r in
     both-ways (λ (n : ℕ). n ≤ 0x7FFF) narrow (omega arith) (omega arith)
 
-reload-lt : (n : NoiseChannel) → noise.reloadOf n ≤ 16383
+pub reload-most : (n : NoiseChannel) → noise.reloadOf n ≤ 16383
 unfolding noise.reloadOf
-reload-lt n = omega arith
+reload-most n = omega arith
 
 pub noise-fresh-held : noise.Held noise.fresh
 noise-fresh-held = record { shift = omega arith; code = omega arith; timer = omega arith; register = omega arith; envelope = envelope-fresh-held }
@@ -40,14 +40,14 @@ module _ (n : NoiseChannel) (h : noise.Held n) where
   pub noise-dac-held : (dac : Bool) → noise.Held (noise.dacSet n dac)
   noise-dac-held dac = record { shift = h .shift; code = h .code; timer = h .timer; register = h .register; envelope = h .envelope }
 
-  noise-moved-held : (register timer : ℕ) → register ≤ 0x7FFF → timer ≤ 16383 → noise.Held (with.moved n register timer)
+  pub noise-moved-held : (register timer : ℕ) → register ≤ 0x7FFF → timer ≤ 16383 → noise.Held (with.moved n register timer)
   noise-moved-held register timer a b = record { shift = h .shift; code = h .code; timer = b; register = a; envelope = h .envelope }
 
   pub noise-clocked-held : noise.Held (noise.clocked n)
   unfolding noise.clocked
   noise-clocked-held =
       both-ways noise.Held _
-      (noise-moved-held _ _ (register-le (n .«feedback_shift_register») (n .«step_mode_7_bits») (h .register)) (reload-lt n))
+      (noise-moved-held _ _ (register-le (n .«feedback_shift_register») (n .«step_mode_7_bits») (h .register)) (reload-most n))
       (noise-moved-held _ _ (h .register) (omega arith))
 
   pub noise-triggered-held : noise.Held (noise.triggered n)

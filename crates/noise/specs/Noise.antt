@@ -29,7 +29,7 @@ fresh =
       «dac_enable» = false;
     }
 
--- FF22 as Pan Docs has it: shift, 7-bit mode, divisor code
+-- FF22 as Pan Docs has it: shift, 7-bit mode, divisor code; written, and read
 abbrev pub written : NoiseChannel → ℕ → NoiseChannel
 written n value = withNoise n (value / 16) (eqb (value / 8 % 2) 1) (value % 8)
 
@@ -40,7 +40,7 @@ byteOf n = n .«shift_clock_frequency» % 16 * 16 + pick (n .«step_mode_7_bits�
 abbrev pub dacSet : NoiseChannel → Bool → NoiseChannel
 dacSet n dac = withOn (withDac n dac) (n .«channel_enabled» && dac)
 
--- "DAC is FFx2 with F8": on where one of the upper five bits is set
+-- an FF21 write: the envelope, and "DAC is FFx2 with F8": on where one of the upper five bits is set
 unfoldable pub enveloped : NoiseChannel → ℕ → NoiseChannel
 enveloped n value = dacSet (withEnvelope n (envelope.written (n .envelope) value)) (leb 8 value)
 
@@ -48,7 +48,7 @@ enveloped n value = dacSet (withEnvelope n (envelope.written (n .envelope) value
 unfoldable pub divisorOf : ℕ → ℕ
 divisorOf code = pick (eqb code 0) 8 (code * 16)
 
--- "Noise reload: divisor shifted left in 16 bits, then /4; what runs past the sixteenth bit is lost"
+-- "Noise reload: divisor .. shifted left in 16 bits, then /4; what runs past the sixteenth bit is lost"
 unfoldable pub reloadOf : NoiseChannel → ℕ
 reloadOf n = (divisorOf (n .«divisor_code») * 2 ^ n .«shift_clock_frequency») % 65536 / 4
 

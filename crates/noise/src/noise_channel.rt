@@ -3,6 +3,9 @@ ghost use mathlib.Core.Path.{_≡_};
 ghost use Prim.Native.Nat.{_≤_, _*_, _%_, _^_};
 ghost use Rattle.noise.specs.Noise.{Held, fresh, written, byteOf, dacSet, enveloped, divisorOf, reloadOf, feedbackOf, putBit, steppedRegister, clocked, triggered, outputOf, mutedOf};
 ghost use Rattle.noise.specs.With.{withOn};
+ghost use Rattle.noise.specs.Hiss.{HissHeld, hissOf, withHiss};
+ghost use Rattle.ground.specs.Iterate.{iterate};
+use crate::hiss::Hiss;
 use ground::num::flag;
 use ground::num::flag16;
 use parts::envelope::Envelope;
@@ -135,7 +138,7 @@ impl NoiseChannel {
     }
 
     // What the timer reloads to.
-    fn get_frequency(self) -> u16
+    pub fn get_frequency(self) -> u16
         requires { ⌜ Held self ⌝ }
         ensures { λ r. ⌜ r ≡ reloadOf self ⌝ }
     {
@@ -161,6 +164,37 @@ impl NoiseChannel {
         }
     }
 
+    // What its clocks move.
+    pub fn hiss(self) -> Hiss
+        ensures { λ r. ⌜ r ≡ hissOf self ⌝ }
+    {
+        Hiss {
+            feedback_shift_register: self.feedback_shift_register as u32,
+            frequency_timer: self.frequency_timer as u32,
+        }
+    }
+
+    // The channel with this as what its clocks move.
+    pub fn with_hiss(self, hiss: Hiss) -> NoiseChannel
+        requires { ⌜ HissHeld hiss ⌝ }
+        ensures { λ r. ⌜ r ≡ withHiss self hiss ⌝ }
+    {
+        let mut next = self;
+        next.feedback_shift_register = hiss.feedback_shift_register as u16;
+        next.frequency_timer = hiss.frequency_timer as u16;
+        next
+    }
+
+    // So many working clocks at once.
+    pub fn advance(self, n: u32) -> NoiseChannel
+        requires { ⌜ Held self ⌝ }
+        requires { ⌜ n ≤ 32769 ⌝ }
+        ensures { λ r. ⌜ r ≡ iterate n clocked self ⌝ }
+    {
+        let hiss = self.hiss();
+        self.with_hiss(hiss.advance(self.step_mode_7_bits, self.get_frequency() as u32, n))
+    }
+
     // A trigger: on if the DAC is, then the envelope and the register; the timer runs on.
     pub fn trigger(self) -> NoiseChannel
         ensures { λ r. ⌜ r ≡ triggered self ⌝ }
@@ -177,8 +211,15 @@ impl NoiseChannel {
     pub fn output(self) -> u8
         ensures { λ r. ⌜ r ≡ outputOf self ⌝ }
     {
+        self.output_at(self.hiss())
+    }
+
+    // The same, where the clocks came to this.
+    pub fn output_at(self, hiss: Hiss) -> u8
+        ensures { λ r. ⌜ r ≡ outputOf (withHiss self hiss) ⌝ }
+    {
         let volume = self.envelope.current_volume;
-        let sounds = self.channel_enabled & (self.feedback_shift_register % 2 == 0);
+        let sounds = self.channel_enabled & (hiss.feedback_shift_register % 2 == 0);
         flag(sounds, volume)
     }
 

@@ -32,7 +32,7 @@ fresh =
       «dac_enable» = false;
     }
 
--- the two duty bits of FFx1
+-- the two duty bits of FF11 or FF16
 abbrev pub dutyWritten : PulseChannel → ℕ → PulseChannel
 dutyWritten p duty = withDuty p (duty % 4)
 
@@ -46,7 +46,7 @@ sweepWritten p value =
     let after = sweep.written (p .sweep) value in
     withOn (withSweep p (after .sweep)) (p .«channel_enabled» && not (after .off))
 
--- "DAC is FFx2 with F8": on where one of the upper five bits is set
+-- an FFx2 write: the envelope, and "DAC is FFx2 with F8": on where one of the upper five bits is set
 unfoldable pub enveloped : PulseChannel → ℕ → PulseChannel
 enveloped p value = dacSet (withEnvelope p (envelope.written (p .envelope) value)) (leb 8 value)
 

@@ -55,7 +55,7 @@ targetOf s =
 unfoldable pub calculated : Sweep → Swept
 calculated s = record { sweep = flagged s; frequency = targetOf s; off = ltb 2047 (targetOf s) }
 
--- a calculation of which only the range counts
+-- a calculation whose result is not kept: the flag, and whether the channel goes off
 unfoldable pub checked : Sweep → Checked
 checked s = record { sweep = (calculated s) .sweep; off = (calculated s) .off }
 
@@ -65,7 +65,7 @@ stored s frequency =
     let again = checked (withShadow s frequency) in
     record { sweep = again .sweep; frequency = frequency; off = again .off }
 
--- "A result up to 2047 with a nonzero shift is stored"
+-- "A result up to 2047 with a nonzero shift is stored", else the channel's frequency stays
 unfoldable pub updated : Sweep → ℕ → Swept
 updated s frequency =
     let first = calculated s in
@@ -87,7 +87,7 @@ clocked s frequency =
     (expired s frequency)
     (record { sweep = withTime s (s .«current_time» - 1); frequency = frequency; off = false })
 
--- "A trigger copies the frequency to the shadow, reloads the counter, enables if period or shift is nonzero, clears the "calculated" flag"
+-- "A trigger copies the frequency to the shadow, reloads the counter (period, 0 as 8), enables if period or shift is nonzero, clears the "calculated" flag"
 unfoldable pub started : Sweep → ℕ → Sweep
 started s frequency =
     record {

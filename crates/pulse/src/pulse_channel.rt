@@ -2,7 +2,11 @@
 ghost use mathlib.Core.Path.{_≡_};
 ghost use Rattle.pulse.specs.Pulse.{Held, fresh, dutyWritten, dacSet, sweepWritten, enveloped, ticked, clocked, sweepClocked, triggered, dutyRow, outputOf, mutedOf};
 ghost use Rattle.pulse.specs.With.{withPosition, withFrequency, withOn};
+ghost use Prim.Native.Nat.{_≤_};
+ghost use Rattle.ground.specs.Iterate.{iterate};
+ghost use Rattle.pulse.specs.Tone.{ToneHeld, toneOf, withTone};
 use crate::sweep::Sweep;
+use crate::tone::Tone;
 use ground::num::flag;
 use parts::envelope::Envelope;
 
@@ -147,6 +151,39 @@ impl PulseChannel {
         }
     }
 
+    // What its clocks move.
+    pub fn tone(self) -> Tone
+        requires { ⌜ Held self ⌝ }
+        ensures { λ r. ⌜ r ≡ toneOf self ⌝ }
+    {
+        Tone {
+            sequencer_position: self.sequencer_position as u32,
+            frequency_timer: self.frequency_timer as u32,
+        }
+    }
+
+    // The channel with that as it stands after some clocks.
+    pub fn with_tone(self, tone: Tone) -> PulseChannel
+        requires { ⌜ ToneHeld tone ⌝ }
+        ensures { λ r. ⌜ r ≡ withTone self tone ⌝ }
+    {
+        let mut next = self;
+        next.sequencer_position = tone.sequencer_position as usize;
+        next.frequency_timer = tone.frequency_timer as u16;
+        next
+    }
+
+    // So many working clocks at once.
+    pub fn advance(self, n: u32) -> PulseChannel
+        requires { ⌜ Held self ⌝ }
+        requires { ⌜ n ≤ 32769 ⌝ }
+        ensures { λ r. ⌜ r ≡ iterate n clocked self ⌝ }
+    {
+        let tone = self.tone();
+        let after = tone.advance(self.first_trigger, (2047 - self.frequency) as u32, n);
+        self.with_tone(after)
+    }
+
     // A sweep clock, which may change the frequency and may turn the channel off.
     pub fn clock_sweeper(self) -> PulseChannel
         requires { ⌜ Held self ⌝ }
@@ -185,15 +222,23 @@ impl PulseChannel {
         }
     }
 
-    // What goes to the converter: 0 with the channel off, else the duty bit at the position times the volume.
+    // What goes to the converter with the position as in `tone`: 0 with the channel off, else the duty bit there times the volume.
+    pub fn output_at(self, tone: Tone) -> u8
+        requires { ⌜ ToneHeld tone ⌝ }
+        ensures { λ r. ⌜ r ≡ outputOf (withTone self tone) ⌝ }
+    {
+        let volume = self.envelope.current_volume;
+        let row = duty_row(self.duty);
+        let bit = (row >> (7 - tone.sequencer_position)) % 2;
+        flag(self.channel_enabled & (bit == 1), volume)
+    }
+
+    // What goes to the converter.
     pub fn output(self) -> u8
         requires { ⌜ Held self ⌝ }
         ensures { λ r. ⌜ r ≡ outputOf self ⌝ }
     {
-        let volume = self.envelope.current_volume;
-        let row = duty_row(self.duty);
-        let bit = (row >> (7 - self.sequencer_position)) % 2;
-        flag(self.channel_enabled & (bit == 1), volume)
+        self.output_at(self.tone())
     }
 
     // Whether the converter stands still: channel off, or volume 0.

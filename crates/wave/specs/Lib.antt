@@ -1,3 +1,4 @@
--- The rules of the wave channel, in reading order.
-pub mod Wave
+-- The rules of the wave channel, in reading order. Assumes nothing.
+pub mod Wave  -- the channel: volume, RAM, timer, trigger, output
+pub mod Swing  -- what its clocks move, for many at once
 pub mod With  -- the record with one thing written anew, no rules

@@ -52,7 +52,7 @@ volumeWritten w volume = withVolume w (volume % 4) (shiftOf (volume % 4))
 abbrev pub dacSet : WaveChannel → Bool → WaveChannel
 dacSet w dac = withOn (withDac w dac) (w .«channel_enable» && dac)
 
--- "Wave RAM with DAC and channel on: byte position/2, whichever address; on DMG only if just clocked"
+-- "Wave RAM with DAC and channel on: byte position/2, whichever address; on DMG only if just clocked"; with either off, the byte of the address
 unfoldable pub indexOf : WaveChannel → Bool → ℕ → BufferIndex
 indexOf w dmg offset =
     pick (w .«dac_enable» && w .«channel_enable»)
@@ -75,7 +75,7 @@ storedIn buffer Nowhere value = buffer
 unfoldable pub stored : WaveChannel → Bool → ℕ → ℕ → WaveChannel
 stored w dmg offset value = withBuffer w (storedIn (w .buffer) (indexOf w dmg offset) value)
 
--- "A timer at 0 steps its channel and reloads, else loses 1. Pulse and wave reload to 2047 - frequency"
+-- one clock of its timer: "A timer at 0 steps its channel and reloads, else loses 1. Pulse and wave reload to 2047 - frequency"
 unfoldable pub halved : WaveChannel → WaveChannel
 halved w =
     pick (eqb (w .«frequency_timer») 0)

@@ -3,6 +3,9 @@ ghost use mathlib.Core.Path.{_≡_};
 ghost use Prim.Native.Nat.{_≤_};
 ghost use Rattle.wave.specs.Wave.{Held, fresh, shiftOf, volumeWritten, dacSet, indexOf, byteAt, stored, halved, clocked, fourFrom, rewritten, bufferAtTrigger, triggered, nibbleOf, outputOf, mutedOf};
 ghost use Rattle.wave.specs.With.{withFrequency, withPosition, withOn};
+ghost use Rattle.ground.specs.Iterate.{iterate};
+ghost use Rattle.wave.specs.Swing.{SwingHeld, swingOf, withSwing};
+use crate::swing::Swing;
 
 pub struct WaveChannel {
     pub volume: u8,
@@ -196,6 +199,40 @@ impl WaveChannel {
         self.half_clock().half_clock()
     }
 
+    // What its clocks move.
+    pub fn swing(self) -> Swing
+        ensures { λ r. ⌜ r ≡ swingOf self ⌝ }
+    {
+        Swing {
+            buffer_position: self.buffer_position as u32,
+            buffer_position_just_clocked: self.buffer_position_just_clocked,
+            frequency_timer: self.frequency_timer as u32,
+        }
+    }
+
+    // The channel with that as it stands after some clocks.
+    pub fn with_swing(self, swing: Swing) -> WaveChannel
+        requires { ⌜ SwingHeld swing ⌝ }
+        ensures { λ r. ⌜ r ≡ withSwing self swing ⌝ }
+    {
+        let mut next = self;
+        next.buffer_position = swing.buffer_position as u8;
+        next.buffer_position_just_clocked = swing.buffer_position_just_clocked;
+        next.frequency_timer = swing.frequency_timer as u16;
+        next
+    }
+
+    // So many working clocks at once.
+    pub fn advance(self, n: u32) -> WaveChannel
+        requires { ⌜ Held self ⌝ }
+        requires { ⌜ n ≤ 32768 ⌝ }
+        ensures { λ r. ⌜ r ≡ iterate n clocked self ⌝ }
+    {
+        let swing = self.swing();
+        let after = swing.advance((2047 - self.frequency) as u32, n);
+        self.with_swing(after)
+    }
+
     // Wave RAM as a trigger leaves it: rewritten on DMG with the timer at 0, whether the channel plays or not.
     fn buffer_at_trigger(self, dmg: bool) -> [u8; 16]
         requires { ⌜ Held self ⌝ }
@@ -223,29 +260,39 @@ impl WaveChannel {
         next
     }
 
-    // The nibble at the position, high at even positions.
-    fn nibble(self) -> u8
+    // The nibble at the position in `swing`, high at even positions.
+    fn nibble_at(self, swing: Swing) -> u8
         requires { ⌜ Held self ⌝ }
-        ensures { λ r. ⌜ r ≡ nibbleOf self ⌝ }
+        requires { ⌜ SwingHeld swing ⌝ }
+        ensures { λ r. ⌜ r ≡ nibbleOf (withSwing self swing) ⌝ }
     {
-        let place = (self.buffer_position / 2) as usize;
+        let place = (swing.buffer_position / 2) as usize;
         let buffer = self.buffer;
         let byte = buffer[place];
-        if self.buffer_position % 2 == 0 {
+        if swing.buffer_position % 2 == 0 {
             byte / 16 % 16
         } else {
             byte % 16
         }
     }
 
-    // What goes to the converter: 0 with the channel off, else the nibble shifted right by the stored shift.
+    // What goes to the converter with the position as in `swing`: 0 with the channel off, else the nibble shifted right by the stored shift.
+    pub fn output_at(self, swing: Swing) -> u8
+        requires { ⌜ Held self ⌝ }
+        requires { ⌜ SwingHeld swing ⌝ }
+        ensures { λ r. ⌜ r ≡ outputOf (withSwing self swing) ⌝ }
+    {
+        let nibble = self.nibble_at(swing);
+        let shifted = nibble >> self.volume_shift;
+        if self.channel_enable { shifted } else { 0 }
+    }
+
+    // What goes to the converter.
     pub fn output(self) -> u8
         requires { ⌜ Held self ⌝ }
         ensures { λ r. ⌜ r ≡ outputOf self ⌝ }
     {
-        let nibble = self.nibble();
-        let shifted = nibble >> self.volume_shift;
-        if self.channel_enable { shifted } else { 0 }
+        self.output_at(self.swing())
     }
 
     // Whether the converter stands still: only with the channel off.

@@ -1,13 +1,12 @@
--- The flag picks the volume or 0. Assumes nothing.
+-- The output at what its own clocks came to. Assumes nothing.
 use borrow.Author.Needs.{needs}
-use Rattle.noise.specs.Noise.{outputOf}
 use Rattle.noise.proofs.noise_channel.NoiseChannel.output.Statement.{statement}
 use Rattle.noise.proofs.noise_channel.NoiseChannel.output.Tie as tie
 
 pub output-spec : {M : Type 1} → statement M
-unfolding outputOf
 output-spec =
     tie.close
     (tie.spec
     (λ c κs. search needs)
-    (λ c. rw (c .flag .ensures .0)))
+    (λ c κs. search needs)
+    (λ c. rw (c .output-at .ensures, c .before .hiss .ensures)))

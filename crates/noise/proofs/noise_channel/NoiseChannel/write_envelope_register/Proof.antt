@@ -4,11 +4,20 @@ use Rattle.noise.specs.Noise.{enveloped}
 use Rattle.noise.proofs.noise_channel.NoiseChannel.write_envelope_register.Statement.{statement}
 use Rattle.noise.proofs.noise_channel.NoiseChannel.write_envelope_register.Tie as tie
 
-pub write-envelope-register-spec : {M : Type 1} → statement M
+write-envelope-register-requires : tie.Need-write-envelope-register-requires
+write-envelope-register-requires c κs = search needs
+
+set-dac-enable-requires : tie.Need-set-dac-enable-requires
+set-dac-enable-requires c κs = search needs
+
+returns : tie.Need-returns
 unfolding enveloped
+returns c = rw (c .set-dac-enable .ensures, c .before .write-envelope-register .ensures)
+
+pub write-envelope-register-spec : {M : Type 1} → statement M
 write-envelope-register-spec =
     tie.close
     (tie.spec
-    (λ c κs. search needs)
-    (λ c κs. search needs)
-    (λ c. rw (c .set-dac-enable .ensures, c .before .write-envelope-register .ensures)))
+    write-envelope-register-requires
+    set-dac-enable-requires
+    returns)

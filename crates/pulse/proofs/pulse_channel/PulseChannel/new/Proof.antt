@@ -3,10 +3,19 @@ use borrow.Author.Needs.{needs}
 use Rattle.pulse.proofs.pulse_channel.PulseChannel.new.Statement.{statement}
 use Rattle.pulse.proofs.pulse_channel.PulseChannel.new.Tie as tie
 
+new-requires : tie.Need-new-requires
+new-requires c κs = search needs
+
+new-requires-2 : tie.Need-new-requires-2
+new-requires-2 c κs = search needs
+
+returns : tie.Need-returns
+returns c = rw (c .before .new .ensures, c .new2 .ensures)
+
 pub new-spec : {M : Type 1} → statement M
 new-spec =
     tie.close
     (tie.spec
-    (λ c κs. search needs)
-    (λ c κs. search needs)
-    (λ c. rw (c .before .new .ensures, c .new2 .ensures)))
+    new-requires
+    new-requires-2
+    returns)

@@ -1,17 +1,12 @@
--- The bit is the definition's, and the flag picks the volume or 0. Assumes nothing.
-use borrow.Author.Needs.{needs}
-use Rattle.pulse.specs.Pulse.{outputOf}
+-- A channel with its own position is itself. Assumes nothing.
+use Rattle.pulse.proofs.Tones.{own-held}
 use Rattle.pulse.proofs.pulse_channel.PulseChannel.output.Statement.{statement}
 use Rattle.pulse.proofs.pulse_channel.PulseChannel.output.Tie as tie
 
 pub output-spec : {M : Type 1} → statement M
-unfolding outputOf
 output-spec =
     tie.close
     (tie.spec
-    (λ c κs. search needs)
-    (λ c. search needs)
-    (λ c. search needs)
-    (λ c. search needs)
-    (λ c κs. search needs)
-    (λ c. rw (c .flag .ensures .0, c .before .before .before .duty-row .ensures)))
+    (λ c κs. c .pre)
+    (λ c κs. rw (c .tone .ensures) (own-held (c .before .args .self) (c .before .pre)))
+    (λ c. rw (c .output-at .ensures, c .before .tone .ensures)))

@@ -4,10 +4,16 @@ use Rattle.pulse.specs.Pulse.{sweepWritten}
 use Rattle.pulse.proofs.pulse_channel.PulseChannel.write_sweep_register.Statement.{statement}
 use Rattle.pulse.proofs.pulse_channel.PulseChannel.write_sweep_register.Tie as tie
 
-pub write-sweep-register-spec : {M : Type 1} → statement M
+write-sweep-register-requires : tie.Need-write-sweep-register-requires
+write-sweep-register-requires c κs = search needs
+
+returns : tie.Need-returns
 unfolding sweepWritten
+returns c = rw (c .before .before .before .write-sweep-register .ensures)
+
+pub write-sweep-register-spec : {M : Type 1} → statement M
 write-sweep-register-spec =
     tie.close
     (tie.spec
-    (λ c κs. search needs)
-    (λ c. rw (c .before .before .before .write-sweep-register .ensures)))
+    write-sweep-register-requires
+    returns)

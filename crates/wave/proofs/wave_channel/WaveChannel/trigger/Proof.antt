@@ -4,11 +4,20 @@ use Rattle.wave.specs.Wave.{triggered}
 use Rattle.wave.proofs.wave_channel.WaveChannel.trigger.Statement.{statement}
 use Rattle.wave.proofs.wave_channel.WaveChannel.trigger.Tie as tie
 
-pub trigger-spec : {M : Type 1} → statement M
+buffer-at-trigger-requires : tie.Need-buffer-at-trigger-requires
+buffer-at-trigger-requires c κs = search needs
+
+sub-next : tie.Need-sub-next
+sub-next c = search needs
+
+returns : tie.Need-returns
 unfolding triggered
+returns c = rw (c .before .before .buffer-at-trigger .ensures)
+
+pub trigger-spec : {M : Type 1} → statement M
 trigger-spec =
     tie.close
     (tie.spec
-    (λ c κs. search needs)
-    (λ c. search needs)
-    (λ c. rw (c .before .before .buffer-at-trigger .ensures)))
+    buffer-at-trigger-requires
+    sub-next
+    returns)

@@ -3,12 +3,12 @@ use borrow.Author.Needs.{needs}
 use borrow.Author.Tests.{eq-eqb, ne-eqb}
 use Rattle.ground.specs.Pick.{pick}
 use Rattle.wave.specs.Wave.{nibbleOf}
-use Rattle.wave.proofs.wave_channel.WaveChannel.nibble.Statement.{statement}
-use Rattle.wave.proofs.wave_channel.WaveChannel.nibble.Tie as tie
+use Rattle.wave.proofs.wave_channel.WaveChannel.nibble_at.Statement.{statement}
+use Rattle.wave.proofs.wave_channel.WaveChannel.nibble_at.Tie as tie
 
-pub nibble-spec : {M : Type 1} → statement M
+pub nibble-at-spec : {M : Type 1} → statement M
 unfolding pick nibbleOf
-nibble-spec =
+nibble-at-spec =
     tie.close
     (tie.spec
     (λ c. search needs)
