@@ -1,4 +1,4 @@
--- Calls of the sound unit as its clocks see them, and what a row of them makes: demand 3's words. Assumes nothing.
+-- Calls of the sound unit as its clocks see them, and what a row of them makes. Quotes marked demand 3 are its words, not document 01's. Assumes nothing.
 use mathlib.Core.Path.{_≡_}
 use mathlib.Core.Bool.{Bool, true, false}
 use mathlib.Core.List.{List, [], _∷_}
@@ -13,12 +13,12 @@ use Rattle.clocks.specs.Counter.{tickBy}
 pub data Call : Type 0 where
   normal double other refused : Call
 
--- a clock call by its speed
+-- an accepted clock call, by whether it is at double speed
 abbrev pub atSpeed : Bool → Call
 atSpeed true = double
 atSpeed false = normal
 
--- "Normal speed adds 2 half-clocks, double speed 1"
+-- "Normal speed adds 2 half-clocks, double speed 1": by whether it is double
 abbrev pub halfClocksOf : Bool → ℕ
 halfClocksOf true = 1
 halfClocksOf false = 2
@@ -29,7 +29,7 @@ pub record Clocks : Type 0 where
   pub counter : Float
   pub frames : ℕ
 
--- of either constructor: half-clocks 0, sample counter 0.0
+-- those of a fresh unit of either constructor: half-clocks 0, sample counter 0.0, no frames
 abbrev pub fresh : Clocks
 fresh = record { half = 0; counter = fin false 0 (pos 0); frames = 0 }
 
@@ -38,16 +38,16 @@ abbrev pub more : Bool → ℕ → ℕ
 more true frames = frames + 1
 more false frames = frames
 
--- "Below 2, the call ends; else 2 are taken off and a working clock follows": by whether `half` is below 2
+-- "Below 2, the call ends; else 2 are taken off and a working clock follows": by whether `half` is below 2; n is N
 abbrev pub after : Bool → Float → ℕ → Clocks → Clocks
 after true n half m = record { half = half; counter = m .counter; frames = m .frames }
 after false n half m = record { half = half - 2; counter = tickBy n (m .counter) .counter; frames = more (tickBy n (m .counter) .made) (m .frames) }
 
--- so many half-clocks more
+-- a clock call that adds so many half-clocks
 abbrev pub clocked : Float → ℕ → Clocks → Clocks
 clocked n halves m = after (ltb (m .half + halves) 2) n (m .half + halves) m
 
--- "No register write, read, power change or refused call alters either"
+-- demand 3: "No register write, read, power change or refused call alters either"
 abbrev pub call : Float → Call → Clocks → Clocks
 call n normal m = clocked n 2 m
 call n double m = clocked n 1 m
@@ -72,26 +72,26 @@ oneIfDouble double = 1
 oneIfDouble other = 0
 oneIfDouble refused = 0
 
--- "let a be the accepted clock calls at normal speed"
+-- demand 3: "let a be the accepted clock calls at normal speed"
 unfoldable pub normals : List Call → ℕ
 normals [] = 0
 normals (c ∷ cs) = oneIfNormal c + normals cs
 
--- "and b those at double speed"
+-- demand 3: "and b those at double speed"
 unfoldable pub doubles : List Call → ℕ
 doubles [] = 0
 doubles (c ∷ cs) = oneIfDouble c + doubles cs
 
--- "W = a + b/2, halves dropped"
+-- demand 3: "W = a + b/2, halves dropped"
 abbrev pub worked : List Call → ℕ
 worked cs = normals cs + doubles cs / 2
 
--- "11025 times K is 2^66 + 1511"
+-- demand 3: "11025 times K is 2^66 + 1511"
 abbrev pub K : ℕ
 K = (2 ^ 66 + 1511) / 11025
 
--- Demand 3 of a row of calls and what it came to, with N as K units of 2 ^ -u: "The number of frames made is exactly W times 2^48 divided by K, rounded
--- down .. The kept f64 remainder, in units of 2^-48, is exactly W times 2^48 less frames times K"
+-- Demand 3 of a row of calls and what it came to, with N as K units of 2 ^ -u (u is 48 at 44100): "The number of frames made is exactly W times 2^48 divided
+-- by K, rounded down .. The kept f64 remainder, in units of 2^-48, is exactly W times 2^48 less frames times K"; `HasValue x false a b` is that x is a / b
 pub record Conserved (u K : ℕ) (cs : List Call) (m : Clocks) : Type 0 where
   pub frames : m .frames ≡ worked cs * 2 ^ u / K
   pub rest : HasValue (m .counter) false (worked cs * 2 ^ u - m .frames * K) (2 ^ u)

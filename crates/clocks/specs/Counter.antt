@@ -11,16 +11,16 @@ use Rattle.clocks.specs.declared.sample_counter.Ticked.{Ticked}
 abbrev pub one : Float
 one = fin false 1 (pos 0)
 
--- N for a rate: "the f64 nearest to 1048576/rate"
+-- N at a rate; document 01 has the rate 44100: "N, the f64 nearest to 1048576/44100"
 unfoldable pub everyAt : ℕ → Float
 everyAt rate = round binary64 false 1048576 rate
 
--- "At or above N, make a frame and subtract N": by whether it is
+-- "At or above N .. make a frame and subtract N": by whether the sum is
 abbrev pub taken : Bool → Float → Float → Ticked
 taken true n sum = record { made = true; counter = sub binary64 sum n }
 taken false n sum = record { made = false; counter = sum }
 
--- "Add 1 to the f64 sample counter"
+-- "Add 1 to the f64 sample counter", then the above
 unfoldable pub tickBy : Float → Float → Ticked
 tickBy n counter = taken (le n (add binary64 counter one)) n (add binary64 counter one)
 

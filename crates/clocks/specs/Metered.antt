@@ -7,11 +7,12 @@ use Rattle.clocks.specs.declared.meter.Meter.{Meter}
 use Rattle.clocks.specs.declared.meter.Metered.{Metered}
 use Rattle.clocks.specs.Calls.{Clocks, K}
 
--- a meter's ranges: half-clocks 0..1, and a rest below N
+-- a meter's ranges: half-clocks 0..1, and a rest of fewer units than N has, which are K
 pub record Held (K : ℕ) (m : Meter) : Type 0 where
   pub half : m .half < 2
   pub rest : m .rest < K
 
+-- that of a fresh unit
 abbrev pub fresh : Meter
 fresh = record { half = 0; rest = 0 }
 
@@ -31,6 +32,6 @@ metered u K m double n =
 abbrev pub clocksOf : ℕ → Meter → ℕ → Clocks
 clocksOf u m frames = record { half = m .half; counter = unitsOf binary64 u (m .rest); frames = frames }
 
--- the frames of so many half-clocks of a fresh unit: "exactly W times 2^48 divided by K, rounded down"
+-- the frames of so many half-clocks of a fresh unit, by demand 3: "exactly W times 2^48 divided by K, rounded down"
 unfoldable pub framesOf : ℕ → ℕ
 framesOf halves = halves / 2 * 2 ^ 48 / K

@@ -5,7 +5,7 @@ use mathlib.Core.Bool.{Bool}
 use lib.Dec.{eqb}
 use lib.IntN.{ℤ, pos, negsuc}
 
--- "sequencer -1..7"
+-- "sequencer -1..7": `pos n` is n, `negsuc n` is -1 - n
 abbrev pub PositionHeld : ℤ → Type 0
 PositionHeld (pos n) = n ≤ 7
 PositionHeld (negsuc n) = n ≡ 0

@@ -5,10 +5,10 @@ ghost use Rattle.clocks.specs.Calls.{K};
 ghost use Rattle.clocks.specs.Metered.{Held, gained, fresh, metered, framesOf};
 
 // What a working clock adds: 2^48 units of 2^-48.
-const CLOCK_UNITS: u64 = 281474976710656;
+pub const CLOCK_UNITS: u64 = 281474976710656;
 
 // What a frame takes: K units, N as a whole number of 2^-48.
-const FRAME_UNITS: u64 = 6692696262570359;
+pub const FRAME_UNITS: u64 = 6692696262570359;
 
 // Half-clocks, 0 or 1, and the rest, the sample counter in units of 2^-48, below K of them.
 pub struct Meter {
