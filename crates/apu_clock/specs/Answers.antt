@@ -9,7 +9,7 @@ refusalOf Nothing = 0
 refusalOf Frame = 0
 refusalOf NoRoom = 2
 
--- the number returned
+-- the number returned: always 0
 abbrev pub returnedOf : Answer → ℕ
 returnedOf Nothing = 0
 returnedOf Frame = 0

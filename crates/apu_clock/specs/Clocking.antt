@@ -46,11 +46,11 @@ answered answer a b = after (record { answer = answer; apu = a }) b
 unfoldable pub passed : Apu → Float → ℕ → Bool → ℕ → Apu
 passed a counter half double divider = finished (withClocks a counter half) double divider
 
--- "At or above N, make a frame and subtract N": `counter` is what is left
+-- "At or above N .. make a frame and subtract N": `counter` is what is left
 unfoldable pub frameOf : Apu → Float → ℕ → Bool → ℕ → Framed
 frameOf a counter half double divider = record { apu = passed (pushed a .apu) counter half double divider; mix = pushed a .mix }
 
--- refused where a buffer has no room, with unit and buffers untouched
+-- a frame that is due: refused where a buffer has no room, with unit and buffers untouched
 unfoldable pub made : Apu → Float → ℕ → Bool → ℕ → ℕ → Buffers → After
 made a counter half double divider place b =
     let f = frameOf a counter half double divider in

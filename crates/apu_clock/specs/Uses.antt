@@ -57,6 +57,7 @@ clockKind double Nothing = atSpeed double
 clockKind double Frame = atSpeed double
 clockKind double NoRoom = refused
 
+-- how the clocks see a use
 unfoldable pub kind : Use → State → Call
 kind (read addr) s = readKind (readOf (s .apu) addr)
 kind (write addr value) s = writeKind (writeOf (s .apu) addr value .answer)
@@ -64,6 +65,6 @@ kind pcm12 s = other
 kind pcm34 s = other
 kind (clock double divider place b) s = clockKind double (clockOf (s .apu) double divider place b .clocked .answer)
 
--- what demand 3 sees of it
+-- what demand 3 sees of the unit
 abbrev pub see : State → Clocks
 see s = record { half = s .apu .«clocks_counter»; counter = s .apu .«sample_counter»; frames = s .frames }

@@ -7,7 +7,7 @@ use clocks::position::next_position;
 use clocks::position::position_of;
 
 // The divider's bit that drives the sequencer: 4, in double speed 5.
-fn sequencer_bit(double: bool, divider: u8) -> bool
+pub fn sequencer_bit(double: bool, divider: u8) -> bool
     ensures { λ r. ⌜ r ≡ bitOf double divider ⌝ }
 {
     if double {

@@ -2,3 +2,4 @@
 pub mod Ranges
 pub mod Room
 pub mod Constants
+pub mod Numbers

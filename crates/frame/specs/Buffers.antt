@@ -8,6 +8,7 @@ use lib.Ieee.{Float}
 use Rattle.frame.specs.declared.mixing.Sides.{Sides}
 use Rattle.frame.specs.declared.mixing.Mix.{Mix}
 
+-- the numbers in each of the five
 pub record Buffers : Type 0 where
   pub pulse1 : List Float
   pub pulse2 : List Float
@@ -18,18 +19,18 @@ pub record Buffers : Type 0 where
 abbrev pub five : List Float → List Float → List Float → List Float → List Float → Buffers
 five p q w n a = record { pulse1 = p; pulse2 = q; wave = w; noise = n; all = a }
 
--- refusal 2 is where "fewer than two numbers lie from the given place on": two do in a buffer of n
+-- refusal 2 is where "fewer than two numbers lie from the given place on": here two do, in a buffer of n numbers
 unfoldable pub roomIn : ℕ → ℕ → Bool
 roomIn n place = leb (place + 2) n
 
--- in each of five
+-- in each of five, by their lengths
 unfoldable pub roomInAll : ℕ → ℕ → ℕ → ℕ → ℕ → ℕ → Bool
 roomInAll place p q w n a = roomIn p place && (roomIn q place && (roomIn w place && (roomIn n place && roomIn a place)))
 
 abbrev pub roomFor : ℕ → Buffers → Bool
 roomFor place b = roomInAll place (length (b .pulse1)) (length (b .pulse2)) (length (b .wave)) (length (b .noise)) (length (b .all))
 
--- the same as facts, for whoever writes
+-- the same as conditions, which the functions that write ask for
 pub record Room (place : ℕ) (b : Buffers) : Type 0 where
   pub pulse1 : place + 2 ≤ length (b .pulse1)
   pub pulse2 : place + 2 ≤ length (b .pulse2)

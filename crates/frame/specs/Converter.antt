@@ -1,4 +1,4 @@
--- The converter's rule, from document 01, "Steps of a clock call": every operation in f32, with nothing flushed. Assumes nothing.
+-- The converter's rule, from document 01, "Steps of a clock call": "each operation in f32", and "Subnormals are kept". Assumes nothing.
 use Prim.Native.Nat.{ℕ}
 use mathlib.Core.Bool.{Bool, true, false}
 use lib.IntN.{pos}
@@ -6,7 +6,7 @@ use lib.Ieee.{Float, binary32, ofBits, ofInt, sub, mul, div}
 use Rattle.frame.specs.declared.converter.Converter.{Converter}
 use Rattle.frame.specs.declared.converter.Converted.{Converted}
 
--- the f32s 0 and 15
+-- the f32s 0 and 15, by their patterns
 abbrev pub f0 : Float
 f0 = ofBits binary32 0x0000_0000
 
@@ -29,7 +29,7 @@ outOf capacitor output = sub binary32 (inOf output) capacitor
 abbrev pub charged : Float → ℕ → Float
 charged capacitor output = sub binary32 (inOf output) (mul binary32 (outOf capacitor output) keep)
 
--- "A muted one gives 0 and its capacitor stays", else the three above
+-- "A muted one gives 0 and its capacitor stays", else the three above: by whether it is muted
 unfoldable pub stepped : Converter → ℕ → Bool → Converted
 stepped d output true = record { converter = d; «dac_out» = f0 }
 stepped d output false = record { converter = record { capacitor = charged (d .capacitor) output }; «dac_out» = outOf (d .capacitor) output }

@@ -1,11 +1,12 @@
--- The ranges of a frame's floats, over whole numbers of 2 ^ -149, the smallest f32 above zero. No plain call asks them. Assumes nothing.
+-- The ranges of a frame's floats, over whole numbers of 2 ^ -149, the smallest f32 above zero. No register or clock call asks them. Assumes nothing.
 use Prim.Native.Nat.{ℕ, _^_, _≤_}
-use mathlib.Core.Bool.{false}
+use mathlib.Core.Bool.{false, not}
 use lib.Dec.{T}
-use lib.Ieee.{Float, binary32, fits}
+use lib.Ieee.{Float, binary32, fits, isNan}
 use lib.Ieee.Digits.{Equals}
 use lib.Ieee.Exact.{HasValue}
 use Rattle.frame.specs.declared.converter.Converter.{Converter}
+use Rattle.frame.specs.declared.mixing.Sides.{Sides}
 
 -- 1.0 in units of 2 ^ -149
 abbrev pub one : ℕ
@@ -27,3 +28,12 @@ pub record Within (k : ℕ) (x : Float) : Type 0 where
   pub units : ℕ
   pub is : Equals x units one
   pub most : units ≤ k
+
+-- x is a number: no NaN
+abbrev pub Number : Float → Type 0
+Number x = T (not (isNan x))
+
+-- so are both of a channel's
+pub record Numbers (s : Sides) : Type 0 where
+  pub right : Number (s .right)
+  pub left : Number (s .left)

@@ -1,4 +1,4 @@
--- The rules of a frame's numbers, in reading order.
+-- The rules of a frame's numbers, in reading order. Assumes nothing.
 pub mod Converter  -- one channel's step
 pub mod Mixing  -- the ten numbers
 pub mod Buffers  -- where they go

@@ -25,7 +25,7 @@ unfoldable pub sideOf : Float → ℕ → Bool → Float
 sideOf sample volume selected =
     div binary32 (cond selected (mul binary32 (div binary32 sample f8) (add binary32 (ofInt binary32 (pos volume)) f1)) f0) f5
 
--- on the right and on the left
+-- on the right and on the left, each by its volume and whether FF25 selects it
 unfoldable pub sidesOf : Float → ℕ → ℕ → Bool → Bool → Sides
 sidesOf sample right left rightward leftward = record { right = sideOf sample right rightward; left = sideOf sample left leftward }
 
@@ -46,6 +46,7 @@ voiced d output muted control selection channel =
 abbrev pub sum4 : Float → Float → Float → Float → Float
 sum4 a b c d = add binary32 (add binary32 (add binary32 a b) c) d
 
+-- the four channels' numbers, and `all`'s
 unfoldable pub mixed : Sides → Sides → Sides → Sides → Mix
 mixed p q w n = record {
   pulse1 = p;

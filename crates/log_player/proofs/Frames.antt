@@ -29,7 +29,8 @@ use Rattle.apu_clock.specs.declared.clock.Answer.the-variants.{Nothing, Frame, 
 use Rattle.records.specs.declared.judge.Record.{Record}
 use Rattle.records.specs.declared.judge.Record.the-variants.{Write, Read, Clock, Pcm, Wrong}
 use Rattle.log_player.specs.Frames.{one, made, madeIn, madeOf, madeBy}
-use Rattle.log_player.specs.Playing.{started, lent, called, answerBytes, callBytes, callUnit, dividerAt, clocksBytes, afterClocks, bytesOf, unitAfter, output, unitAtEnd}
+use Rattle.clock_player.specs.Calls.{lent, called, answerBytes, callBytes, callUnit, dividerAt, clocksBytes, afterClocks}
+use Rattle.log_player.specs.Playing.{started, bytesOf, unitAfter, output, unitAtEnd}
 
 -- ---- one clock call
 

@@ -1,5 +1,4 @@
 -- The laws of playing. Assumes nothing.
-pub mod Calls  -- clock calls
 pub mod Recorded  -- one record
 pub mod Frames  -- how many frames and bytes there are
 pub mod Walking  -- a row of records

@@ -1,4 +1,4 @@
--- A whole log: what it is answered, and what it leaves in the output. Assumes nothing.
+-- A whole log: what it is answered, and the bytes that it makes, from document 01, "The access log". Assumes nothing.
 use Prim.Native.Nat.{ℕ}
 use mathlib.Core.List.{List}
 use lib.ListN.{length, getD}
@@ -11,6 +11,6 @@ use Rattle.log_player.specs.Playing.{started, output}
 abbrev pub outputOf : List ℕ → List ℕ
 outputOf s = output (listed s) (started (getD s 1 0))
 
--- refusals 3 to 6 in that order, by the log and the output's length; the bytes are those of the output
+-- "3 to 6 are tried in that order", in an output of `room` bytes; the bytes written, or needed, are those above
 abbrev pub playedOf : List ℕ → ℕ → Played
 playedOf s room = withinRoom room (scannedAs (length (outputOf s)) s)

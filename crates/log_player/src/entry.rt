@@ -4,7 +4,6 @@ ghost use lib.ListN.{length};
 ghost use Prim.Native.Nat.{_<_, _^_};
 ghost use Rattle.access_log.specs.Answers.{returnedOf, packed, outAfter, countsAfter};
 ghost use Rattle.log_player.specs.Logs.{outputOf, playedOf};
-use crate::play::Play;
 use crate::play::play_list;
 use crate::play::start;
 use access_log::answer::Played;
@@ -14,6 +13,7 @@ use access_log::answer::refusal;
 use access_log::answer::returned;
 use access_log::answer::scan;
 use access_log::answer::within;
+use clock_player::calls::Play;
 
 // Plays a log into the output, or refuses it and writes nothing.
 pub fn play_log(log: &[u8], out: &mut [u8]) -> Played

@@ -3,28 +3,21 @@ ghost use mathlib.Core.Path.{_≡_};
 ghost use Prim.Native.Nat.{_+_, _-_, _≤_};
 ghost use lib.ListN.{length};
 ghost use lib.Seq.{sets};
-ghost use Rattle.apu.specs.Held.{Held};
+ghost use Rattle.apu.specs.Held.{Held, FloatsHeld};
 ghost use Rattle.apu.specs.Answers.{returnedOfRead};
 ghost use Rattle.records.specs.Judge.{judgeOf};
 ghost use Rattle.records.specs.Records.{listed};
-ghost use Rattle.log_player.specs.Playing.{started, dividerAt, callBytes, callUnit, clocksBytes, afterClocks, bytesOf, output, moved, playedRecord, playedAll};
+ghost use Rattle.log_player.specs.Playing.{started, bytesOf, output, playedRecord, playedAll};
 use apu::Apu;
 use apu::registers::Read;
-use apu_clock::clock::Answer;
-use apu_clock::clock::clock;
-use output::items::put_frame;
+use clock_player::calls::Play;
+use clock_player::calls::play_clocks;
 use output::items::put_pcm;
 use output::items::put_read;
 use records::cut::Cut;
 use records::cut::cut_at;
 use records::judge::Record;
 use records::judge::judge;
-
-// The unit, and the place of the output's next byte.
-pub struct Play {
-    pub apu: Apu,
-    pub at: usize,
-}
 
 // The unit that a start byte asks for: bit 0 DMG, bit 1 `new_skip_boot_rom`.
 pub fn start(byte: u8) -> Apu
@@ -36,65 +29,6 @@ pub fn start(byte: u8) -> Apu
     } else {
         Apu::new(dmg)
     }
-}
-
-// One clock call, and its frame where it makes one.
-fn play_clock(p: Play, double: bool, divider: u8, out: &mut [u8]) -> Play
-    requires { ⌜ Held (p .apu) ⌝ }
-    requires { ⌜ p .at + length (callBytes double divider (p .apu)) ≤ length (now out) ⌝ }
-    ensures { λ r. ⌜ r ≡ moved p (callUnit double divider (p .apu)) (callBytes double divider (p .apu)) ⌝ }
-    ensures { λ _. ⌜ now (out .exit) ≡ sets (now (out .entry)) (p .at) (callBytes double divider (p .apu)) ⌝ }
-{
-    let mut pulse1 = [0.0f32; 2];
-    let mut pulse2 = [0.0f32; 2];
-    let mut wave = [0.0f32; 2];
-    let mut noise = [0.0f32; 2];
-    let mut all = [0.0f32; 2];
-    let clocked = clock(
-        p.apu,
-        double,
-        divider,
-        0,
-        &mut pulse1,
-        &mut pulse2,
-        &mut wave,
-        &mut noise,
-        &mut all,
-    );
-    let at = p.at;
-    let answer = clocked.answer;
-    let apu = clocked.apu;
-    match answer {
-        Answer::Nothing => Play { apu, at },
-        Answer::Frame => {
-            let end = put_frame(out, at, &pulse1, &pulse2, &wave, &noise, &all);
-            Play { apu, at: end }
-        }
-        Answer::NoRoom => Play { apu, at },
-    }
-}
-
-// The divider in call i of a record: the record's own.
-fn divider_at(divider: u8, i: u16) -> u8
-    ensures { λ r. ⌜ r ≡ dividerAt divider i ⌝ }
-{
-    divider
-}
-
-// Calls `from` up to `to` of a kind 03 record.
-pub fn play_clocks(p: Play, double: bool, divider: u8, from: u16, to: u16, out: &mut [u8]) -> Play
-    requires { ⌜ Held (p .apu) ⌝ }
-    requires { ⌜ p .at + length (clocksBytes double divider from (to - from) (p .apu)) ≤ length (now out) ⌝ }
-    ensures { λ r. ⌜ r ≡ moved p (afterClocks double divider from (to - from) (p .apu)) (clocksBytes double divider from (to - from) (p .apu)) ⌝ }
-    ensures { λ _. ⌜ now (out .exit) ≡ sets (now (out .entry)) (p .at) (clocksBytes double divider from (to - from) (p .apu)) ⌝ }
-{
-    let mut q = p;
-    let mut i = from;
-    while i < to {
-        q = play_clock(q, double, divider_at(divider, i), out);
-        i += 1;
-    }
-    q
 }
 
 // The number that a read returned.
@@ -110,10 +44,11 @@ fn byte_of(answer: Read) -> u8
 // A record's body, a part of the log: judged and played. A wrong one plays nothing.
 pub fn play_record(p: Play, body: &[u8], out: &mut [u8]) -> Play
     requires { ⌜ Held (p .apu) ⌝ }
+    requires { ⌜ FloatsHeld (p .apu) ⌝ }
     requires { ⌜ p .at + length (bytesOf (judgeOf (now body)) (p .apu)) ≤ length (now out) ⌝ }
     ensures { λ r. ⌜ r ≡ playedRecord (judgeOf (now (body .entry))) p ⌝ }
     ensures { λ _. ⌜ now (out .exit) ≡ sets (now (out .entry)) (p .at) (bytesOf (judgeOf (now (body .entry))) (p .apu)) ⌝ }
-    ensures { λ r. ⌜ Held (r .apu) ⌝ }
+    ensures { λ r. ⌜ Held (r .apu) × FloatsHeld (r .apu) ⌝ }
 {
     let at = p.at;
     let apu = p.apu;
@@ -143,6 +78,7 @@ pub fn play_record(p: Play, body: &[u8], out: &mut [u8]) -> Play
 // A log's records, which begin after its first two bytes.
 pub fn play_list(p: Play, log: &[u8], out: &mut [u8]) -> Play
     requires { ⌜ Held (p .apu) ⌝ }
+    requires { ⌜ FloatsHeld (p .apu) ⌝ }
     requires { ⌜ p .at + length (output (listed (now log)) (p .apu)) ≤ length (now out) ⌝ }
     ensures { λ r. ⌜ r ≡ playedAll (listed (now (log .entry))) p ⌝ }
     ensures { λ _. ⌜ now (out .exit) ≡ sets (now (out .entry)) (p .at) (output (listed (now (log .entry))) (p .apu)) ⌝ }

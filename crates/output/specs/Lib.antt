@@ -1,2 +1,2 @@
--- The output of the log player.
+-- The output of the log player. Assumes nothing.
 pub mod Items  -- the bytes of each item

@@ -4,7 +4,10 @@ ghost use Prim.Native.Nat.{_+_, _≤_};
 ghost use lib.ListN.{length};
 ghost use lib.Seq.{sets};
 ghost use Rattle.frame.specs.Buffers.{five};
-ghost use Rattle.output.specs.Items.{be32, samplesBytes, readItem, pcmItem, frameItem};
+ghost use Rattle.frame.specs.Held.{Numbers};
+ghost use Rattle.output.specs.Items.{be32, samplesBytes, sidesBytes, readItem, pcmItem, frameItem, mixItem, Known};
+use frame::mixing::Mix;
+use frame::mixing::Sides;
 use frame::pattern::pattern;
 
 // A number of four bytes, the high one first.
@@ -73,4 +76,37 @@ pub fn put_frame(
     let third = put_samples(out, second, wave);
     let fourth = put_samples(out, third, noise);
     put_samples(out, fourth, all)
+}
+
+// A channel's two numbers, right then left.
+fn put_sides(out: &mut [u8], at: usize, sides: Sides)
+    requires { ⌜ at + 8 ≤ length (now out) ⌝ }
+    ensures { λ _. ⌜ now (out .exit) ≡ sets (now (out .entry)) at (sidesBytes sides) ⌝ }
+{
+    put_word(out, at, pattern(sides.right));
+    put_word(out, at + 4, pattern(sides.left));
+}
+
+// The same where neither is a NaN, which saves two tests.
+fn put_numbers(out: &mut [u8], at: usize, sides: Sides)
+    requires { ⌜ at + 8 ≤ length (now out) ⌝ }
+    requires { ⌜ Numbers sides ⌝ }
+    ensures { λ _. ⌜ now (out .exit) ≡ sets (now (out .entry)) at (sidesBytes sides) ⌝ }
+{
+    put_word(out, at, f32::to_bits(sides.right));
+    put_word(out, at + 4, f32::to_bits(sides.left));
+}
+
+// A frame straight from its ten numbers.
+pub fn put_mix(out: &mut [u8], at: usize, mix: Mix)
+    requires { ⌜ at + 41 ≤ length (now out) ⌝ }
+    requires { ⌜ Known mix ⌝ }
+    ensures { λ _. ⌜ now (out .exit) ≡ sets (now (out .entry)) at (mixItem mix) ⌝ }
+{
+    out[at] = 0x46;
+    put_numbers(out, at + 1, mix.pulse1);
+    put_numbers(out, at + 9, mix.pulse2);
+    put_numbers(out, at + 17, mix.wave);
+    put_numbers(out, at + 25, mix.noise);
+    put_sides(out, at + 33, mix.all);
 }

@@ -7,8 +7,8 @@ use access_log::answer::refusal;
 use access_log::answer::returned;
 use access_log::answer::scan;
 use apu::Apu;
-use log_player::play::Play;
-use log_player::play::play_clocks;
+use clock_player::calls::Play;
+use clock_player::calls::play_clocks;
 use log_player::play::play_record;
 use log_player::play::start;
 use records::cut::Cut;
@@ -22,10 +22,11 @@ use text::put_items;
 ghost use mathlib.Core.Path.{_≡_};
 ghost use Prim.Native.Nat.{_+_, _-_, _≤_, _<_};
 ghost use lib.ListN.{length};
-ghost use Rattle.apu.specs.Held.{Held};
+ghost use Rattle.apu.specs.Held.{Held, FloatsHeld};
 ghost use Rattle.records.specs.Judge.{judgeOf};
 ghost use Rattle.records.specs.Records.{listed};
-ghost use Rattle.log_player.specs.Playing.{afterClocks, bytesOf, unitAfter, unitAtEnd};
+ghost use Rattle.clock_player.specs.Calls.{afterClocks};
+ghost use Rattle.log_player.specs.Playing.{bytesOf, unitAfter, unitAtEnd};
 
 // The unit, and the place of the text's next byte.
 struct Shown {
@@ -43,7 +44,7 @@ fn show_some(
     bytes: &mut [u8],
     text: &mut [u8],
 ) -> Shown
-    requires { ⌜ Held (s .apu) ⌝ }
+    requires { ⌜ Held (s .apu) × FloatsHeld (s .apu) ⌝ }
     requires { ⌜ to ≤ from + 1024 ⌝ }
     requires { ⌜ length (now bytes) ≡ 65536 ⌝ }
     ensures { λ r. ⌜ r .apu ≡ afterClocks double divider from (to - from) (s .apu) ⌝ }
@@ -73,7 +74,7 @@ fn show_clocks(
     bytes: &mut [u8],
     text: &mut [u8],
 ) -> Shown
-    requires { ⌜ Held (s .apu) ⌝ }
+    requires { ⌜ Held (s .apu) × FloatsHeld (s .apu) ⌝ }
     requires { ⌜ length (now bytes) ≡ 65536 ⌝ }
     ensures { λ r. ⌜ r .apu ≡ afterClocks double divider 0 count (s .apu) ⌝ }
 {
@@ -89,10 +90,10 @@ fn show_clocks(
 
 // Any other record: a read, both PCM reads, or a write, which prints nothing.
 fn show_item(s: Shown, body: &[u8], addr: u16, bytes: &mut [u8], text: &mut [u8]) -> Shown
-    requires { ⌜ Held (s .apu) ⌝ }
+    requires { ⌜ Held (s .apu) × FloatsHeld (s .apu) ⌝ }
     requires { ⌜ length (bytesOf (judgeOf (now body)) (s .apu)) ≤ length (now bytes) ⌝ }
     ensures { λ r. ⌜ r .apu ≡ unitAfter (judgeOf (now (body .entry))) (s .apu) ⌝ }
-    ensures { λ r. ⌜ Held (r .apu) ⌝ }
+    ensures { λ r. ⌜ Held (r .apu) × FloatsHeld (r .apu) ⌝ }
 {
     let apu = s.apu;
     let at = s.at;
@@ -104,10 +105,10 @@ fn show_item(s: Shown, body: &[u8], addr: u16, bytes: &mut [u8], text: &mut [u8]
 
 // A record's body.
 fn show_record(s: Shown, body: &[u8], bytes: &mut [u8], text: &mut [u8]) -> Shown
-    requires { ⌜ Held (s .apu) ⌝ }
+    requires { ⌜ Held (s .apu) × FloatsHeld (s .apu) ⌝ }
     requires { ⌜ length (now bytes) ≡ 65536 ⌝ }
     ensures { λ r. ⌜ r .apu ≡ unitAfter (judgeOf (now (body .entry))) (s .apu) ⌝ }
-    ensures { λ r. ⌜ Held (r .apu) ⌝ }
+    ensures { λ r. ⌜ Held (r .apu) × FloatsHeld (r .apu) ⌝ }
 {
     match judge(body) {
         Record::Write { addr, value: _ } => show_item(s, body, addr, bytes, text),
@@ -124,7 +125,7 @@ fn show_record(s: Shown, body: &[u8], bytes: &mut [u8], text: &mut [u8]) -> Show
 
 // A log's records, which begin after its first two bytes.
 fn show_list(s: Shown, log: &[u8], bytes: &mut [u8], text: &mut [u8]) -> Shown
-    requires { ⌜ Held (s .apu) ⌝ }
+    requires { ⌜ Held (s .apu) × FloatsHeld (s .apu) ⌝ }
     requires { ⌜ length (now bytes) ≡ 65536 ⌝ }
     ensures { λ r. ⌜ r .apu ≡ unitAtEnd (listed (now (log .entry))) (s .apu) ⌝ }
 {

@@ -29,27 +29,28 @@ pub data Parsed : Type 0 where
   short : ℕ → Parsed
   item : ℕ → Record → Parsed → Parsed
 
--- what stands at a place, before what is said of the next
+-- what stands at a place, in front of what `rest` says of the next
 abbrev pub grow : List ℕ → ℕ → (ℕ → Parsed) → Cut → Parsed
 grow s at rest End = done
 grow s at rest Short = short at
 grow s at rest (Body n) = item at (judgeOf (bodyAt s at n)) (rest (at + 2 + n))
 
--- by so many turns
+-- the records from a place on, but no more than so many
 unfoldable pub parse : ℕ → List ℕ → ℕ → Parsed
 parse zero s at = done
 parse (suc f) s at = grow s at (parse f s) (cutAt s at)
 
--- the records from a place on: no more than there are bytes
+-- all of them: there are no more than the log has bytes
 unfoldable pub recordsFrom : List ℕ → ℕ → Parsed
 recordsFrom s at = parse (length s) s at
 
+-- this and the next two are facts with their proofs: rests that agree on the next place give the same row
 grow-same : (s : List ℕ) (at : ℕ) (f g : ℕ → Parsed) (k : Cut) → ((n : ℕ) → f (at + 2 + n) ≡ g (at + 2 + n)) → grow s at f k ≡ grow s at g k
 grow-same s at f g End h = refl
 grow-same s at f g Short h = refl
 grow-same s at f g (Body n) h = rw (h n)
 
--- turns enough are turns enough
+-- two counts that are both enough give the same
 parse-same : (f g : ℕ) (s : List ℕ) (at : ℕ) → length s - at ≤ f → length s - at ≤ g → parse f s at ≡ parse g s at
 unfolding pick parse cutAt
 parse-same zero zero s at h k = refl
@@ -57,7 +58,7 @@ parse-same zero (suc g) s at h k = let e : length s ≤ at = omega arith in simp
 parse-same (suc f) zero s at h k = let e : length s ≤ at = omega arith in simp (le-leb _ _ e)
 parse-same (suc f) (suc g) s at h k = grow-same s at (parse f s) (parse g s) (cutAt s at) (λ n. parse-same f g s (at + 2 + n) (omega arith) (omega arith))
 
--- THE LAW: the records from a place on are what stands there, before the records from the next place on
+-- what to read `recordsFrom` as: the records from a place on are what stands there, before the records from the next place on
 pub records-step : (s : List ℕ) (at : ℕ) → recordsFrom s at ≡ grow s at (recordsFrom s) (cutAt s at)
 unfolding recordsFrom parse
 records-step s at = parse-same (length s) (suc (length s)) s at (omega arith) (omega arith)

@@ -7,14 +7,14 @@ use lib.ListN.{length}
 use denote.Ref.{now}
 use Rattle.records.specs.Judge.{judgeOf}
 use Rattle.log_player.specs.Playing.{bytesOf}
-use Rattle.log_player.specs.declared.play.Play.{Play}
+use Rattle.clock_player.specs.declared.calls.Play.{Play}
 use Rattle.output.proofs.Stores.{prefix-counts}
 use Rattle.player.proofs.show_item.Statement.{statement}
 use Rattle.player.proofs.show_item.Tie as tie
 
 play-record-requires : tie.Need-play-record-requires
 play-record-requires c κs =
-    (c .before .before .before .before .before .pre .0, (rw (zero-add (length (bytesOf (judgeOf (now (c .before .before .before .before .before .args .body))) (c .before .before .before .before .before .args .s .apu)))) (c .before .before .before .before .before .pre .1)))
+    (c .before .before .before .before .before .pre .0 .0, (c .before .before .before .before .before .pre .0 .1, (rw (zero-add (length (bytesOf (judgeOf (now (c .before .before .before .before .before .args .body))) (c .before .before .before .before .before .args .s .apu)))) (c .before .before .before .before .before .pre .1))))
 
 slice-reshare-prefix-put-items : tie.Need-slice-reshare-prefix-put-items
 slice-reshare-prefix-put-items c =

@@ -1,7 +1,7 @@
 -- The unit that the start byte asks for holds its ranges, and the buffers have 65,536 bytes. Assumes nothing.
 use borrow.Author.Needs.{needs}
 use mathlib.Core.Path.{sym}
-use Rattle.log_player.proofs.Walking.{start-held}
+use Rattle.log_player.proofs.Walking.{start-held, start-floats}
 use Rattle.player.proofs.show_log.Statement.{statement}
 use Rattle.player.proofs.show_log.Tie as tie
 
@@ -27,7 +27,7 @@ slice-aggregate-show-list-2 c =
 
 show-list-requires : tie.Need-show-list-requires
 show-list-requires c κs =
-    (rw (c .before .before .start .ensures) (start-held _), sym (c .before .before .before .before .large-buffer .ensures))
+    (rw (c .before .before .start .ensures) (start-held _, start-floats _), sym (c .before .before .before .before .large-buffer .ensures))
 
 slice-aggregate-flush : tie.Need-slice-aggregate-flush
 slice-aggregate-flush c =

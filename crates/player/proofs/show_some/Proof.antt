@@ -3,7 +3,7 @@ use borrow.Author.Needs.{needs}
 use native.Mathlib.Omega.{arith}
 use mathlib.Core.Path.{ap}
 use denote.Ref.{now}
-use Rattle.log_player.specs.declared.play.Play.{Play}
+use Rattle.clock_player.specs.declared.calls.Play.{Play}
 use Rattle.player.proofs.Showing.{some-room}
 use Rattle.output.proofs.Stores.{prefix-counts}
 use Rattle.player.proofs.show_some.Statement.{statement}
@@ -11,7 +11,7 @@ use Rattle.player.proofs.show_some.Tie as tie
 
 play-clocks-requires : tie.Need-play-clocks-requires
 play-clocks-requires c κs =
-    (c .before .before .before .before .pre .0, some-room (c .before .before .before .before .args .double) (c .before .before .before .before .args .divider) (c .before .before .before .before .args .from) (c .before .before .before .before .args .to) (c .before .before .before .before .args .s .apu) (now (c .before .before .before .before .args .bytes)) (c .before .before .before .before .pre .1 .0) (c .before .before .before .before .pre .1 .1))
+    (c .before .before .before .before .pre .0 .0, (c .before .before .before .before .pre .0 .1, (omega (arith, c .before .before .before .before .pre .1 .0), some-room (c .before .before .before .before .args .double) (c .before .before .before .before .args .divider) (c .before .before .before .before .args .from) (c .before .before .before .before .args .to) (c .before .before .before .before .args .s .apu) (now (c .before .before .before .before .args .bytes)) (c .before .before .before .before .pre .1 .0) (c .before .before .before .before .pre .1 .1))))
 
 slice-reshare-prefix-put-items : tie.Need-slice-reshare-prefix-put-items
 slice-reshare-prefix-put-items c =

@@ -6,12 +6,25 @@ use Rattle.apu_clock.proofs.Ranges.{channels-held}
 use Rattle.apu_clock.proofs.sequencer.finish.Statement.{statement}
 use Rattle.apu_clock.proofs.sequencer.finish.Tie as tie
 
-pub finish-spec : {M : Type 1} → statement M
+clock-channels-requires : tie.Need-clock-channels-requires
+clock-channels-requires c κs = search needs
+
+clock-sequencer-requires : tie.Need-clock-sequencer-requires
+clock-sequencer-requires c κs = rw (c .clock-channels .ensures) (channels-held _ (c .before .before .pre))
+
+returns : tie.Need-returns
 unfolding pick finished
+returns c = rw (c .clock-sequencer .ensures, c .before .clock-channels .ensures, c .before .before .if1 .taken)
+
+returns-2 : tie.Need-returns-2
+unfolding pick finished
+returns-2 c = rw (c .if1 .left)
+
+pub finish-spec : {M : Type 1} → statement M
 finish-spec =
     tie.close
     (tie.spec
-    (λ c κs. search needs)
-    (λ c κs. rw (c .clock-channels .ensures) (channels-held _ (c .before .before .pre)))
-    (λ c. rw (c .clock-sequencer .ensures, c .before .clock-channels .ensures, c .before .before .if1 .taken))
-    (λ c. rw (c .if1 .left)))
+    clock-channels-requires
+    clock-sequencer-requires
+    returns
+    returns-2)

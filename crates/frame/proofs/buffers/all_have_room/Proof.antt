@@ -4,14 +4,32 @@ use Rattle.frame.specs.Buffers.{roomInAll}
 use Rattle.frame.proofs.buffers.all_have_room.Statement.{statement}
 use Rattle.frame.proofs.buffers.all_have_room.Tie as tie
 
-pub all-have-room-spec : {M : Type 1} → statement M
+has-room-requires : tie.Need-has-room-requires
+has-room-requires c κs = search needs
+
+has-room-requires-2 : tie.Need-has-room-requires-2
+has-room-requires-2 c κs = search needs
+
+has-room-requires-3 : tie.Need-has-room-requires-3
+has-room-requires-3 c κs = search needs
+
+has-room-requires-4 : tie.Need-has-room-requires-4
+has-room-requires-4 c κs = search needs
+
+has-room-requires-5 : tie.Need-has-room-requires-5
+has-room-requires-5 c κs = search needs
+
+returns : tie.Need-returns
 unfolding roomInAll
+returns c = rw (c .before .before .before .before .has-room .ensures, c .before .before .before .has-room2 .ensures, c .before .before .has-room3 .ensures, c .before .has-room4 .ensures, c .has-room5 .ensures)
+
+pub all-have-room-spec : {M : Type 1} → statement M
 all-have-room-spec =
     tie.close
     (tie.spec
-    (λ c κs. search needs)
-    (λ c κs. search needs)
-    (λ c κs. search needs)
-    (λ c κs. search needs)
-    (λ c κs. search needs)
-    (λ c. rw (c .before .before .before .before .has-room .ensures, c .before .before .before .has-room2 .ensures, c .before .before .has-room3 .ensures, c .before .has-room4 .ensures, c .has-room5 .ensures)))
+    has-room-requires
+    has-room-requires-2
+    has-room-requires-3
+    has-room-requires-4
+    has-room-requires-5
+    returns)

@@ -4,11 +4,20 @@ use Rattle.frame.specs.Mixing.{sidesOf}
 use Rattle.frame.proofs.mixing.sides_of.Statement.{statement}
 use Rattle.frame.proofs.mixing.sides_of.Tie as tie
 
-pub sides-of-spec : {M : Type 1} → statement M
+side-of-requires : tie.Need-side-of-requires
+side-of-requires c κs = search needs
+
+side-of-requires-2 : tie.Need-side-of-requires-2
+side-of-requires-2 c κs = search needs
+
+returns : tie.Need-returns
 unfolding sidesOf
+returns c = rw (c .side-of2 .ensures, c .before .side-of .ensures)
+
+pub sides-of-spec : {M : Type 1} → statement M
 sides-of-spec =
     tie.close
     (tie.spec
-    (λ c κs. search needs)
-    (λ c κs. search needs)
-    (λ c. rw (c .side-of2 .ensures, c .before .side-of .ensures)))
+    side-of-requires
+    side-of-requires-2
+    returns)

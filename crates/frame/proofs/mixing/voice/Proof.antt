@@ -4,14 +4,32 @@ use Rattle.frame.specs.Mixing.{voiced}
 use Rattle.frame.proofs.mixing.voice.Statement.{statement}
 use Rattle.frame.proofs.mixing.voice.Tie as tie
 
-pub voice-spec : {M : Type 1} → statement M
+dac-output-requires : tie.Need-dac-output-requires
+dac-output-requires c κs = search needs
+
+selected-requires : tie.Need-selected-requires
+selected-requires c κs = search needs
+
+add-selected : tie.Need-add-selected
+add-selected c = search needs
+
+selected-requires-2 : tie.Need-selected-requires-2
+selected-requires-2 c κs = search needs
+
+sides-of-requires : tie.Need-sides-of-requires
+sides-of-requires c κs = search needs
+
+returns : tie.Need-returns
 unfolding voiced
+returns c = rw (c .before .sides-of .ensures, c .before .before .selected2 .ensures, c .before .before .before .selected .ensures, c .before .before .before .before .dac-output .ensures)
+
+pub voice-spec : {M : Type 1} → statement M
 voice-spec =
     tie.close
     (tie.spec
-    (λ c κs. search needs)
-    (λ c κs. search needs)
-    (λ c. search needs)
-    (λ c κs. search needs)
-    (λ c κs. search needs)
-    (λ c. rw (c .before .sides-of .ensures, c .before .before .selected2 .ensures, c .before .before .before .selected .ensures, c .before .before .before .before .dac-output .ensures)))
+    dac-output-requires
+    selected-requires
+    add-selected
+    selected-requires-2
+    sides-of-requires
+    returns)

@@ -6,7 +6,7 @@ use native.Mathlib.Nat.{zero-add}
 use lib.ListN.{length}
 use denote.Ref.{now}
 use Rattle.log_player.specs.Logs.{outputOf}
-use Rattle.log_player.proofs.Walking.{start-held}
+use Rattle.log_player.proofs.Walking.{start-held, start-floats}
 use Rattle.log_player.proofs.Answering.{answer-is, long, room, put-out, kept-out}
 use Rattle.log_player.proofs.entry.play_log.Statement.{statement}
 use Rattle.log_player.proofs.entry.play_log.Tie as tie
@@ -33,7 +33,7 @@ start-requires c κs =
 
 play-list-requires : tie.Need-play-list-requires
 play-list-requires c κs =
-    rw (c .before .start .ensures) (start-held _, rw (zero-add (length (outputOf (now (c .before .before .before .before .before .before .before .before .before .args .log))))) (room (now (c .before .before .before .before .before .before .before .before .before .args .log)) (now (c .before .before .before .before .before .before .before .before .before .args .out)) (c .before .before .before .before .before .before .scan .result) (c .before .before .before .before .before .within .result) (c .before .before .before .before .before .before .scan .ensures) (c .before .before .before .before .before .within .ensures) (sym (c .before .before .before .before .is-done .ensures) ∙ c .before .before .before .if1 .taken)))
+    rw (c .before .start .ensures) (start-held _, (start-floats _, rw (zero-add (length (outputOf (now (c .before .before .before .before .before .before .before .before .before .args .log))))) (room (now (c .before .before .before .before .before .before .before .before .before .args .log)) (now (c .before .before .before .before .before .before .before .before .before .args .out)) (c .before .before .before .before .before .before .scan .result) (c .before .before .before .before .before .within .result) (c .before .before .before .before .before .before .scan .ensures) (c .before .before .before .before .before .within .ensures) (sym (c .before .before .before .before .is-done .ensures) ∙ c .before .before .before .if1 .taken))))
 
 same-length : tie.Need-same-length
 same-length c =

@@ -19,7 +19,7 @@ abbrev μ-loop : tie.MeasureT-loop
 
 loop-holds : tie.Need-loop-holds Inv-loop μ-loop
 loop-holds c =
-    begun (c .before .before .pre .0) (c .before .before .pre .1)
+    begun (c .before .before .pre .0) (c .before .before .pre .1 .0) (c .before .before .pre .1 .1)
 
 cut-at-requires : tie.Need-cut-at-requires Inv-loop μ-loop
 cut-at-requires c κs =
@@ -75,7 +75,7 @@ part-play-record-end c =
 
 play-record-requires : tie.Need-play-record-requires Inv-loop μ-loop
 play-record-requires c κs =
-    let n = c .before .before .before .len .given in let k = add-sub-cancel-left (c .before .before .before .before .before .before .loop .at + 2) (n .0 .0) in let b = list-body _ (c .before .before .before .before .before .before .loop .at) (n .0 .0) (sym (c .before .before .before .before .before .cut-at .ensures) ∙ c .before .before .before .len .given .1) in rw k (c .before .before .before .before .before .before .loop .inv .held, room-now (c .before .before .before .before .before .before .loop .inv) _ _ b)
+    let n = c .before .before .before .len .given in let k = add-sub-cancel-left (c .before .before .before .before .before .before .loop .at + 2) (n .0 .0) in let b = list-body _ (c .before .before .before .before .before .before .loop .at) (n .0 .0) (sym (c .before .before .before .before .before .cut-at .ensures) ∙ c .before .before .before .len .given .1) in rw k (c .before .before .before .before .before .before .loop .inv .held, (c .before .before .before .before .before .before .loop .inv .floats, room-now (c .before .before .before .before .before .before .loop .inv) _ _ b))
 
 loop-less : tie.Need-loop-less Inv-loop μ-loop
 loop-less c =

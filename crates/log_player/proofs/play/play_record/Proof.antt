@@ -4,6 +4,7 @@ use native.Mathlib.Omega.{arith}
 use mathlib.Core.Path.{sym, _∙_}
 use denote.Ref.{now}
 use Rattle.records.specs.Judge.{judgeOf}
+use Rattle.records.proofs.Judged.{clock-few}
 use Rattle.log_player.proofs.Recorded.{write-made, read-made, pcm-made, clock-made, wrong-made, read-room, pcm-room, clock-room}
 use Rattle.log_player.proofs.play.play_record.Statement.{statement}
 use Rattle.log_player.proofs.play.play_record.Tie as tie
@@ -34,11 +35,11 @@ byte-of-requires c κs =
 
 put-read-requires : tie.Need-put-read-requires
 put-read-requires c κs =
-    read-room (judgeOf (now (c .before .before .before .before .before .before .before .before .before .before .args .body))) (c .before .before .before .before .before .before .before .before .before .before .args .p) (now (c .before .before .before .before .before .before .before .before .before .before .args .out)) (c .before .before .before .before .before .before .before .before .before .before .pre .1) _ (sym (c .before .before .before .before .before .before .judge .ensures) ∙ c .before .before .before .before .addr2 .given .1)
+    read-room (judgeOf (now (c .before .before .before .before .before .before .before .before .before .before .args .body))) (c .before .before .before .before .before .before .before .before .before .before .args .p) (now (c .before .before .before .before .before .before .before .before .before .before .args .out)) (c .before .before .before .before .before .before .before .before .before .before .pre .1 .1) _ (sym (c .before .before .before .before .before .before .judge .ensures) ∙ c .before .before .before .before .addr2 .given .1)
 
 add-t21 : tie.Need-add-t21
 add-t21 c =
-    let r = read-room (judgeOf (now (c .before .before .before .before .before .before .before .before .before .before .before .before .before .args .body))) (c .before .before .before .before .before .before .before .before .before .before .before .before .before .args .p) (now (c .before .before .before .before .before .before .before .before .before .before .before .before .before .args .out)) (c .before .before .before .before .before .before .before .before .before .before .before .before .before .pre .1) _ (sym (c .before .before .before .before .before .before .before .before .before .judge .ensures) ∙ c .before .before .before .before .before .before .before .addr2 .given .1) in omega (arith, r)
+    let r = read-room (judgeOf (now (c .before .before .before .before .before .before .before .before .before .before .before .before .before .args .body))) (c .before .before .before .before .before .before .before .before .before .before .before .before .before .args .p) (now (c .before .before .before .before .before .before .before .before .before .before .before .before .before .args .out)) (c .before .before .before .before .before .before .before .before .before .before .before .before .before .pre .1 .1) _ (sym (c .before .before .before .before .before .before .before .before .before .judge .ensures) ∙ c .before .before .before .before .before .before .before .addr2 .given .1) in omega (arith, r)
 
 enum-known-double : tie.Need-enum-known-double
 enum-known-double c =
@@ -46,7 +47,7 @@ enum-known-double c =
 
 play-clocks-requires : tie.Need-play-clocks-requires
 play-clocks-requires c κs =
-    (c .before .before .before .before .before .before .before .before .pre .0, clock-room (judgeOf (now (c .before .before .before .before .before .before .before .before .args .body))) (c .before .before .before .before .before .before .before .before .args .p) (now (c .before .before .before .before .before .before .before .before .args .out)) (c .before .before .before .before .before .before .before .before .pre .1) _ _ _ (sym (c .before .before .before .before .judge .ensures) ∙ c .before .before .double .given .1))
+    (c .before .before .before .before .before .before .before .before .pre .0, (c .before .before .before .before .before .before .before .before .pre .1 .0, (omega (arith, clock-few (c .before .before .before .before .before .before .before .before .args .body .now) _ _ _ (sym (c .before .before .before .before .judge .ensures) ∙ c .before .before .double .given .1)), clock-room (judgeOf (now (c .before .before .before .before .before .before .before .before .args .body))) (c .before .before .before .before .before .before .before .before .args .p) (now (c .before .before .before .before .before .before .before .before .args .out)) (c .before .before .before .before .before .before .before .before .pre .1 .1) _ _ _ (sym (c .before .before .before .before .judge .ensures) ∙ c .before .before .double .given .1))))
 
 enum-told : tie.Need-enum-told
 enum-told c =
@@ -62,11 +63,11 @@ read-pcm34-requires c κs =
 
 put-pcm-requires : tie.Need-put-pcm-requires
 put-pcm-requires c κs =
-    pcm-room (judgeOf (now (c .before .before .before .before .before .before .before .before .before .args .body))) (c .before .before .before .before .before .before .before .before .before .args .p) (now (c .before .before .before .before .before .before .before .before .before .args .out)) (c .before .before .before .before .before .before .before .before .before .pre .1) (sym (c .before .before .before .before .before .judge .ensures) ∙ c .before .before .before .enum-told .given .1)
+    pcm-room (judgeOf (now (c .before .before .before .before .before .before .before .before .before .args .body))) (c .before .before .before .before .before .before .before .before .before .args .p) (now (c .before .before .before .before .before .before .before .before .before .args .out)) (c .before .before .before .before .before .before .before .before .before .pre .1 .1) (sym (c .before .before .before .before .before .judge .ensures) ∙ c .before .before .before .enum-told .given .1)
 
 add-t29 : tie.Need-add-t29
 add-t29 c =
-    let r = pcm-room (judgeOf (now (c .before .before .before .before .before .before .before .before .before .before .before .before .args .body))) (c .before .before .before .before .before .before .before .before .before .before .before .before .args .p) (now (c .before .before .before .before .before .before .before .before .before .before .before .before .args .out)) (c .before .before .before .before .before .before .before .before .before .before .before .before .pre .1) (sym (c .before .before .before .before .before .before .before .before .judge .ensures) ∙ c .before .before .before .before .before .before .enum-told .given .1) in omega (arith, r)
+    let r = pcm-room (judgeOf (now (c .before .before .before .before .before .before .before .before .before .before .before .before .args .body))) (c .before .before .before .before .before .before .before .before .before .before .before .before .args .p) (now (c .before .before .before .before .before .before .before .before .before .before .before .before .args .out)) (c .before .before .before .before .before .before .before .before .before .before .before .before .pre .1 .1) (sym (c .before .before .before .before .before .before .before .before .judge .ensures) ∙ c .before .before .before .before .before .before .enum-told .given .1) in omega (arith, r)
 
 enum-told-2 : tie.Need-enum-told-2
 enum-told-2 c =
@@ -74,7 +75,7 @@ enum-told-2 c =
 
 returns : tie.Need-returns
 returns c =
-    write-made (judgeOf (now (c .before .before .before .before .before .before .before .before .before .args .body))) (c .before .before .before .before .before .before .before .before .before .args .p) (now (c .before .before .before .before .before .before .before .before .before .args .out)) (c .before .before .before .before .before .before .before .before .before .pre .0) (c .before .before .before .addr .given .0 .0) (c .before .before .before .addr .given .0 .1 .0) (c .before .write-register .result) (sym (c .before .before .before .before .before .judge .ensures) ∙ c .before .before .before .addr .given .1) (omega arith) (c .before .write-register .ensures .0)
+    write-made (judgeOf (now (c .before .before .before .before .before .before .before .before .before .args .body))) (c .before .before .before .before .before .before .before .before .before .args .p) (now (c .before .before .before .before .before .before .before .before .before .args .out)) (c .before .before .before .before .before .before .before .before .before .pre .0) (c .before .before .before .before .before .before .before .before .before .pre .1 .0) (c .before .before .before .addr .given .0 .0) (c .before .before .before .addr .given .0 .1 .0) (c .before .write-register .result) (sym (c .before .before .before .before .before .judge .ensures) ∙ c .before .before .before .addr .given .1) (omega arith) (c .before .write-register .ensures .0)
 
 same-length : tie.Need-same-length
 same-length c =
@@ -82,7 +83,7 @@ same-length c =
 
 returns-2 : tie.Need-returns-2
 returns-2 c =
-    read-made (judgeOf (now (c .before .before .before .before .before .before .before .before .before .before .before .before .before .args .body))) (c .before .before .before .before .before .before .before .before .before .before .before .before .before .args .p) (now (c .before .before .before .before .before .before .before .before .before .before .before .before .before .args .out)) (c .before .before .before .before .before .before .before .before .before .before .before .before .before .pre .0) _ (c .before .before .before .byte-of .result) _ (sym (c .before .before .before .before .before .before .before .before .before .judge .ensures) ∙ c .before .before .before .before .before .before .before .addr2 .given .1) (rw (c .before .before .before .before .read-register .ensures .0) at (c .before .before .before .byte-of .ensures)) (c .before .before .put-read .ensures)
+    read-made (judgeOf (now (c .before .before .before .before .before .before .before .before .before .before .before .before .before .args .body))) (c .before .before .before .before .before .before .before .before .before .before .before .before .before .args .p) (now (c .before .before .before .before .before .before .before .before .before .before .before .before .before .args .out)) (c .before .before .before .before .before .before .before .before .before .before .before .before .before .pre .0) (c .before .before .before .before .before .before .before .before .before .before .before .before .before .pre .1 .0) _ (c .before .before .before .byte-of .result) _ (sym (c .before .before .before .before .before .before .before .before .before .judge .ensures) ∙ c .before .before .before .before .before .before .before .addr2 .given .1) (rw (c .before .before .before .before .read-register .ensures .0) at (c .before .before .before .byte-of .ensures)) (c .before .before .put-read .ensures)
 
 same-length-2 : tie.Need-same-length-2
 same-length-2 c =
@@ -90,7 +91,7 @@ same-length-2 c =
 
 returns-3 : tie.Need-returns-3
 returns-3 c =
-    clock-made (judgeOf (now (c .before .before .before .before .before .before .before .before .before .before .before .args .body))) (c .before .before .before .before .before .before .before .before .before .before .before .args .p) (now (c .before .before .before .before .before .before .before .before .before .before .before .args .out)) (c .before .before .before .before .before .before .before .before .before .before .before .pre .0) _ _ _ _ _ (sym (c .before .before .before .before .before .before .before .judge .ensures) ∙ c .before .before .before .before .before .double .given .1) (c .before .before .play-clocks .ensures)
+    clock-made (judgeOf (now (c .before .before .before .before .before .before .before .before .before .before .before .args .body))) (c .before .before .before .before .before .before .before .before .before .before .before .args .p) (now (c .before .before .before .before .before .before .before .before .before .before .before .args .out)) (c .before .before .before .before .before .before .before .before .before .before .before .pre .0) (c .before .before .before .before .before .before .before .before .before .before .before .pre .1 .0) _ _ _ _ _ (sym (c .before .before .before .before .before .before .before .judge .ensures) ∙ c .before .before .before .before .before .double .given .1) (c .before .before .play-clocks .ensures)
 
 same-length-3 : tie.Need-same-length-3
 same-length-3 c =
@@ -98,11 +99,11 @@ same-length-3 c =
 
 returns-4 : tie.Need-returns-4
 returns-4 c =
-    pcm-made (judgeOf (now (c .before .before .before .before .before .before .before .before .before .before .before .before .args .body))) (c .before .before .before .before .before .before .before .before .before .before .before .before .args .p) (now (c .before .before .before .before .before .before .before .before .before .before .before .before .args .out)) (c .before .before .before .before .before .before .before .before .before .before .before .before .pre .0) (c .before .before .before .before .read-pcm12 .result) (c .before .before .before .read-pcm34 .result) _ (sym (c .before .before .before .before .before .before .before .before .judge .ensures) ∙ c .before .before .before .before .before .before .enum-told .given .1) (c .before .before .before .before .read-pcm12 .ensures) (c .before .before .before .read-pcm34 .ensures) (c .before .before .put-pcm .ensures)
+    pcm-made (judgeOf (now (c .before .before .before .before .before .before .before .before .before .before .before .before .args .body))) (c .before .before .before .before .before .before .before .before .before .before .before .before .args .p) (now (c .before .before .before .before .before .before .before .before .before .before .before .before .args .out)) (c .before .before .before .before .before .before .before .before .before .before .before .before .pre .0) (c .before .before .before .before .before .before .before .before .before .before .before .before .pre .1 .0) (c .before .before .before .before .read-pcm12 .result) (c .before .before .before .read-pcm34 .result) _ (sym (c .before .before .before .before .before .before .before .before .judge .ensures) ∙ c .before .before .before .before .before .before .enum-told .given .1) (c .before .before .before .before .read-pcm12 .ensures) (c .before .before .before .read-pcm34 .ensures) (c .before .before .put-pcm .ensures)
 
 returns-5 : tie.Need-returns-5
 returns-5 c =
-    wrong-made (judgeOf (now (c .before .before .before .before .before .before .args .body))) (c .before .before .before .before .before .before .args .p) (now (c .before .before .before .before .before .before .args .out)) (c .before .before .before .before .before .before .pre .0) (sym (c .before .before .judge .ensures) ∙ c .enum-told2 .given .1)
+    wrong-made (judgeOf (now (c .before .before .before .before .before .before .args .body))) (c .before .before .before .before .before .before .args .p) (now (c .before .before .before .before .before .before .args .out)) (c .before .before .before .before .before .before .pre .0) (c .before .before .before .before .before .before .pre .1 .0) (sym (c .before .before .judge .ensures) ∙ c .enum-told2 .given .1)
 
 pub play-record-spec : {M : Type 1} → statement M
 play-record-spec =

@@ -8,17 +8,18 @@ use native.Mathlib.Omega.{arith}
 use lib.ListN.{length, length-append}
 use lib.Seq.{sets, length-sets}
 use Rattle.frame.specs.Buffers.{Buffers}
-use Rattle.apu.specs.Held.{Held}
+use Rattle.apu.specs.Held.{Held, FloatsHeld}
 use Rattle.apu_clock.specs.Clocking.{After, after}
 use Rattle.apu_clock.proofs.Ranges.{clock-held}
+use Rattle.apu_clock.proofs.Floats.{clock-floats}
 use Rattle.output.specs.Items.{frameItem}
 use Rattle.output.proofs.Stores.{sets-append}
 use Rattle.apu.specs.declared.Apu.{Apu}
 use Rattle.apu_clock.specs.declared.clock.Clocked.{Clocked}
 use Rattle.apu_clock.specs.declared.clock.Answer.{Answer}
 use Rattle.apu_clock.specs.declared.clock.Answer.the-variants.{Nothing, Frame, NoRoom}
-use Rattle.log_player.specs.declared.play.Play.{Play}
-use Rattle.log_player.specs.Playing.{lent, called, answerBytes, callBytes, callUnit, dividerAt, clocksBytes, afterClocks, moved}
+use Rattle.clock_player.specs.declared.calls.Play.{Play}
+use Rattle.clock_player.specs.Calls.{lent, called, answerBytes, callBytes, callUnit, dividerAt, clocksBytes, afterClocks, moved}
 
 -- ---- one call, by what it left
 module _ (d : Bool) (v : ℕ) (a : Apu) (r : Clocked) (b : Buffers) (e : after r b ≡ called d v a) where
@@ -54,10 +55,19 @@ call-held : (d : Bool) (v : ℕ) (a : Apu) → Held a → Held (callUnit d v a)
 unfolding callUnit
 call-held d v a h = clock-held a d v 0 lent h
 
+call-floats : (d : Bool) (v : ℕ) (a : Apu) → Held a → FloatsHeld a → FloatsHeld (callUnit d v a)
+unfolding callUnit
+call-floats d v a h f = clock-floats a d v 0 lent h f
+
 pub clocks-held : (d : Bool) (v i k : ℕ) (a : Apu) → Held a → Held (afterClocks d v i k a)
 unfolding afterClocks
 clocks-held d v i zero a h = h
 clocks-held d v i (suc k) a h = clocks-held d v (suc i) k (callUnit d (dividerAt v i) a) (call-held d (dividerAt v i) a h)
+
+pub clocks-floats : (d : Bool) (v i k : ℕ) (a : Apu) → Held a → FloatsHeld a → FloatsHeld (afterClocks d v i k a)
+unfolding afterClocks
+clocks-floats d v i zero a h f = f
+clocks-floats d v i (suc k) a h f = clocks-floats d v (suc i) k (callUnit d (dividerAt v i) a) (call-held d (dividerAt v i) a h) (call-floats d (dividerAt v i) a h f)
 
 -- ---- a row of calls
 
@@ -68,13 +78,14 @@ moved-moved p a b xs ys = rw (length-append xs ys, add-assoc (p .at) (length xs)
 -- what the loop holds on to: the calls still to come, from the state and the output as they are, make what all of them make from the start
 pub record Going (d : Bool) (v i₀ k₀ : ℕ) (p : Play) (out₀ : List ℕ) (i k : ℕ) (q : Play) (out : List ℕ) : Type 0 where
   pub held : Held (q .apu)
+  pub floats : FloatsHeld (q .apu)
   pub room : q .at + length (clocksBytes d v i k (q .apu)) ≤ length out
   pub same : length out ≡ length out₀
   pub state : moved q (afterClocks d v i k (q .apu)) (clocksBytes d v i k (q .apu)) ≡ moved p (afterClocks d v i₀ k₀ (p .apu)) (clocksBytes d v i₀ k₀ (p .apu))
   pub bytes : sets out (q .at) (clocksBytes d v i k (q .apu)) ≡ sets out₀ (p .at) (clocksBytes d v i₀ k₀ (p .apu))
 
-pub begun : {d : Bool} {v i k : ℕ} {p : Play} {out : List ℕ} → Held (p .apu) → p .at + length (clocksBytes d v i k (p .apu)) ≤ length out → Going d v i k p out i k p out
-begun h r = record { held = h; room = r; same = refl; state = refl; bytes = refl }
+pub begun : {d : Bool} {v i k : ℕ} {p : Play} {out : List ℕ} → Held (p .apu) → FloatsHeld (p .apu) → p .at + length (clocksBytes d v i k (p .apu)) ≤ length out → Going d v i k p out i k p out
+begun h f r = record { held = h; floats = f; room = r; same = refl; state = refl; bytes = refl }
 
 module _ {d : Bool} {v i₀ k₀ : ℕ} {p : Play} {out₀ : List ℕ} {i k : ℕ} {q : Play} {out : List ℕ} (g : Going d v i₀ k₀ p out₀ i k q out) where
   pub ended : k ≡ 0 → (q ≡ moved p (afterClocks d v i₀ k₀ (p .apu)) (clocksBytes d v i₀ k₀ (p .apu))) × (out ≡ sets out₀ (p .at) (clocksBytes d v i₀ k₀ (p .apu)))
@@ -112,6 +123,7 @@ module _ {d : Bool} {v i₀ k₀ : ℕ} {p : Play} {out₀ : List ℕ} {i k : �
     turn =
         record {
           held = call-held d (dividerAt v i) (q .apu) (g .held);
+          floats = call-floats d (dividerAt v i) (q .apu) (g .held) (g .floats);
           room = rw (length-sets out (q .at) frame) room-first;
           same = length-sets out (q .at) frame ∙ g .same;
           state = sym (moved-moved q next (afterClocks d v (suc i) j next) frame rest) ∙ rw (bytes-first, unit-first) at (g .state);

@@ -1,9 +1,9 @@
 -- What the call left says which bytes it makes, and those are put. Assumes nothing.
 use borrow.Author.Needs.{needs}
 use denote.Ref.{now}
-use Rattle.log_player.proofs.Calls.{frame-room, frame-call, nothing-call, refused-call}
-use Rattle.log_player.proofs.play.play_clock.Statement.{statement}
-use Rattle.log_player.proofs.play.play_clock.Tie as tie
+use Rattle.clock_player.proofs.Rows.{frame-room, frame-call, nothing-call, refused-call}
+use Rattle.clock_player.proofs.calls.play_clock.Statement.{statement}
+use Rattle.clock_player.proofs.calls.play_clock.Tie as tie
 
 slice-aggregate-clock : tie.Need-slice-aggregate-clock
 slice-aggregate-clock c =
