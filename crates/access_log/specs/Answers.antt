@@ -35,6 +35,7 @@ returnedOf (TooShort needed) = needed
 abbrev pub packed : Played → ℕ
 packed a = refusalOf a * 2 ^ 48 + returnedOf a
 
+-- whether it is no refusal
 abbrev pub isDone : Played → Bool
 isDone (Done written frames clocks records) = true
 isDone TooLong = false
@@ -81,7 +82,7 @@ withinRoom room BadStart = BadStart
 withinRoom room (WrongRecord place) = WrongRecord place
 withinRoom room (TooShort needed) = TooShort needed
 
--- the output after it: the bytes at its front and what stood behind them, or with a refusal all that stood there
+-- the output after it: the bytes at its front, and "Bytes past those written stay"; with a refusal all of them stay
 abbrev pub outAfter : Played → List ℕ → List ℕ → List ℕ
 outAfter (Done written frames clocks records) bytes out = bytes ++ drop (length bytes) out
 outAfter TooLong bytes out = out
@@ -89,7 +90,7 @@ outAfter BadStart bytes out = out
 outAfter (WrongRecord place) bytes out = out
 outAfter (TooShort needed) bytes out = out
 
--- frames, clock calls and records at the front of a slice that has room for three, with no refusal
+-- lent numbers after it: frames, clock calls and records at the front where three fit; with a refusal all of them stay
 unfoldable pub countsAfter : Played → List ℕ → List ℕ
 countsAfter (Done written frames clocks records) counts = pick (leb 3 (length counts)) (sets counts 0 (frames ∷ clocks ∷ records ∷ [])) counts
 countsAfter TooLong counts = counts

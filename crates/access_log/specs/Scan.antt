@@ -1,4 +1,4 @@
--- What the scan finds in some records: the first wrong one, and sums. Of two rows it is joined from what each has. Assumes nothing.
+-- What the scan, the pass over a log before it is played, finds in some records: the first wrong one, and sums; of two rows, from what each has. Assumes nothing.
 use Prim.Native.Nat.{ℕ, _+_, _^_, _<_}
 use mathlib.Core.List.{List}
 use lib.ListN.{length}
@@ -11,12 +11,12 @@ use Rattle.access_log.specs.declared.scan.Found.{Found}
 use Rattle.records.specs.Records.{Parsed, done, short, item, unrolled}
 use Rattle.access_log.specs.Sums.{asks, halvesOf, readsOf, sumOf}
 
--- the first of two marks that is one
+-- the first of two marks that is a place
 abbrev pub orMark : Mark → Mark → Mark
 orMark Clear m = m
 orMark (At p) m = At p
 
--- "place of its first length byte"
+-- 5: "place of its first length byte"
 abbrev pub wrongMark : ℕ → Record → Mark
 wrongMark place (Write addr value) = Clear
 wrongMark place (Read addr) = Clear
@@ -45,7 +45,7 @@ oneFound wrong calls halves reads = record { wrong = wrong; sums = record { reco
 abbrev pub foundIn : ℕ → Record → Found
 foundIn place r = oneFound (wrongMark place r) (asks r) (halvesOf r) (readsOf r)
 
--- no records
+-- what no records have
 abbrev pub nothing : Mark → Found
 nothing wrong = record { wrong = wrong; sums = record { records = 0; calls = 0; halves = 0; reads = 0 } }
 

@@ -16,7 +16,7 @@ abbrev pub refusalOfWrite : Write → ℕ
 refusalOfWrite Done = 0
 refusalOfWrite write.WrongAddress = 1
 
--- the number returned: of a read its byte; of a refusal 0, as of all else here
+-- the number returned: of a read its byte, of a write or a refusal 0
 abbrev pub returnedOfRead : Read → ℕ
 returnedOfRead (Byte b) = b
 returnedOfRead read.WrongAddress = 0

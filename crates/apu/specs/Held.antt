@@ -1,4 +1,4 @@
--- The ranges of the sound unit, made of its parts'. That is all that a call may ask of a state. Assumes nothing.
+-- The ranges of the sound unit, made of its parts'. `Held` is all that a register or clock call asks of a state. Assumes nothing.
 use Prim.Native.Nat.{_≤_}
 use Rattle.clocks.specs.Counter.{Kept}
 use Rattle.clocks.specs.Calls.{K}
@@ -17,7 +17,7 @@ pub record Held (a : Apu) : Type 0 where
   pub position : PositionHeld (a .«sequencer_position»)
   pub clocks : a .«clocks_counter» ≤ 1
 
--- the ranges of the floats, which no plain call asks: capacitors from 0 to 1, the sample counter a whole number of 2 ^ -48 below N
+-- the ranges of the floats, which only playing many calls at once asks: capacitors from 0 to 1, the sample counter a whole number of 2 ^ -48 below N
 pub record FloatsHeld (a : Apu) : Type 0 where
   pub pulse1 : pulse.FloatHeld (a .pulse1)
   pub pulse2 : pulse.FloatHeld (a .pulse2)

@@ -1,4 +1,4 @@
--- The sound unit, in reading order.
+-- The sound unit, in reading order. Assumes nothing.
 pub mod Held  -- the ranges of a unit
 pub mod Start  -- the two constructors
 pub mod Registers  -- reads, writes and power

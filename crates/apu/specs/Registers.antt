@@ -1,6 +1,6 @@
 -- What each register reads as and what a write does, from document 01, "Registers and power". `at` is the address less FF10. Assumes nothing.
 use Prim.Native.Nat.{ℕ, zero, suc, _+_, _-_, _*_, _%_}
-use mathlib.Core.Bool.{Bool, true, false, _&&_}
+use mathlib.Core.Bool.{true, false}
 use lib.Dec.{eqb, ltb, leb}
 use lib.IntN.{pos, negsuc}
 use Rattle.ground.specs.Pick.{pick}
@@ -99,7 +99,7 @@ silenced a = withPower (withGroups a (pulse.silenced (a .pulse1)) (pulse.silence
 unfoldable pub poweredOff : Apu → Apu
 poweredOff a = silenced (zeroed a 22)
 
--- "Power on puts the sequencer at 0, or -1 if the stored bit is set, duty and wave positions at 0"
+-- "Power on puts the sequencer at 0, or -1 if the stored bit is set, duty and wave positions at 0"; and the power on
 unfoldable pub restarted : Apu → Apu
 restarted a =
     withPower
@@ -110,15 +110,17 @@ restarted a =
 unfoldable pub refilled : Apu → Apu
 refilled a = withGroups a (pulse.refilled (a .pulse1)) (pulse.refilled (a .pulse2)) (wave.refilled (a .wave)) (noise.refilled (a .noise))
 
+-- power on; on DMG the lengths stay
 unfoldable pub poweredOn : Apu → Apu
 poweredOn a = pick (a .«is_dmg») (restarted a) (refilled (restarted a))
 
--- FF26: bit 7, where it changes
+-- a write of FF26: bit 7 is the power, and only a change of it does anything
 unfoldable pub powerWritten : Apu → ℕ → Apu
 powerWritten a value = pick (leb 128 value) (pick (a .power) a (poweredOn a)) (pick (a .power) (poweredOff a) a)
 
 -- ---- any address
 
+-- FF10..FF25, FF26, nothing at FF27..FF2F, wave RAM
 unfoldable pub writtenAt : Apu → ℕ → ℕ → Apu
 writtenAt a at value =
     pick (ltb at 22) (gatedWritten a at value)

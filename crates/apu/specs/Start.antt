@@ -1,4 +1,4 @@
--- The two constructors, from document 01, "Channel rules". Assumes nothing.
+-- The two constructors, `new` and `new_skip_boot_rom`, from document 01, "Channel rules". Assumes nothing.
 use mathlib.Core.Bool.{Bool, true, false}
 use lib.IntN.{pos}
 use lib.Ieee.{binary64, ofBits}
@@ -13,7 +13,7 @@ use Rattle.groups.specs.WaveGroups as wave
 use Rattle.groups.specs.NoiseGroups as noise
 use Rattle.apu.specs.declared.Apu.{Apu}
 
--- "Start: everything 0 or off"
+-- "Start: everything 0 or off", on DMG or not
 unfoldable pub fresh : Bool → Apu
 fresh dmg =
     record {
@@ -44,7 +44,7 @@ booted g =
 abbrev pub shortened : NoiseGroup → NoiseGroup
 shortened g = record { converter = g .converter; length = length.written (g .length) 0x3F; channel = g .channel }
 
--- "FF24 77, FF25 F3, power on"
+-- `new_skip_boot_rom`: the two above, and "FF24 77, FF25 F3, power on"
 unfoldable pub skipped : Bool → Apu
 skipped dmg =
     let a = fresh dmg in

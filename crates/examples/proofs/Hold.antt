@@ -27,11 +27,11 @@ marked-hold =
     and frames-by-formula 262144
     and frames-by-formula 262145
     and frames-by-formula 1048576
-    and refl and refl and refl and refl and refl and refl
+    and refl and refl and refl and refl and refl and refl and refl and refl and refl and refl
     and refl and refl
     and refl and refl and refl
     and refl and refl and refl and refl and refl
     and refl and refl and refl
-    and refl and refl and refl and refl and refl and refl and refl and refl and refl
+    and refl and refl and refl
     and refl
     and end

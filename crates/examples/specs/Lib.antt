@@ -1,2 +1,2 @@
--- The marked examples.
-pub mod Marked
+-- The marked examples. Assumes nothing.
+pub mod Marked  -- one list, and what it states

@@ -1,10 +1,8 @@
--- The marked examples of document 01, in its order and numbering, as ONE list. A row has the example's number, what the rules give, and what the
--- document says; yes and no are 1 and 0. Assumes nothing.
+-- The ten marked examples of document 01, in its order and numbering, as one list with a single statement over it. Assumes nothing.
 use mathlib.Core.Path.{_≡_}
 use mathlib.Core.Bool.{Bool, true, false}
 use mathlib.Core.List.{List, [], _∷_}
-use Prim.Native.Nat.{ℕ}
-use lib.ListN.{getD}
+use Prim.Native.Nat.{ℕ, _+_, _*_}
 use lib.Ieee.{binary32, toBits}
 use Rattle.clocks.specs.Counter.{everyAt}
 use Rattle.clocks.specs.Calls.{normal, run, fresh, times}
@@ -20,6 +18,7 @@ use Rattle.wave.specs.With as waveWith
 use Rattle.noise.specs.Noise as noise
 use Rattle.pulse.specs.declared.pulse_channel.PulseChannel.{PulseChannel}
 
+-- the example's number, what the rules give, and what the document says; yes and no are 1 and 0
 pub record Row : Type 0 where
   pub number : ℕ
   pub given : ℕ
@@ -40,7 +39,7 @@ pub data AllHold : List Row → Type 0 where
 abbrev pub framesAfter : ℕ → ℕ
 framesAfter n = run (everyAt 44100) (times n normal) fresh .frames
 
--- 4: what a unit past its boot program, on DMG or not, reads at an address
+-- 4: what a unit of `new_skip_boot_rom`, on DMG or not, reads at an address
 abbrev booted : Bool → ℕ → ℕ
 booted dmg addr = returnedOfRead (readOf (skipped dmg) addr)
 
@@ -59,14 +58,18 @@ on p = asNumber (p .«channel_enabled»)
 abbrev reload : ℕ → ℕ
 reload ff22 = noise.reloadOf (noise.written noise.fresh ff22)
 
--- 9: sixteen bytes, byte i being 16 + i, and byte i after a DMG trigger with the timer at 0
+-- 9: wave RAM with byte i as 16 + i, after a DMG trigger with the timer at 0; all sixteen bytes as one number, byte 0 highest
 abbrev bytes : List ℕ
-bytes = 16 ∷ 17 ∷ 18 ∷ 19 ∷ 20 ∷ 21 ∷ 22 ∷ 23 ∷ 24 ∷ 25 ∷ 26 ∷ 27 ∷ 28 ∷ 29 ∷ 30 ∷ 31 ∷ []
+bytes = 0x10 ∷ 0x11 ∷ 0x12 ∷ 0x13 ∷ 0x14 ∷ 0x15 ∷ 0x16 ∷ 0x17 ∷ 0x18 ∷ 0x19 ∷ 0x1A ∷ 0x1B ∷ 0x1C ∷ 0x1D ∷ 0x1E ∷ 0x1F ∷ []
 
-abbrev byte : ℕ → ℕ → ℕ
-byte position i = getD (wave.triggered (waveWith.withPosition (waveWith.withBuffer wave.fresh bytes) position) true .buffer) i 0
+abbrev ram : ℕ → ℕ
+ram position = after 0 (wave.triggered (waveWith.withPosition (waveWith.withBuffer wave.fresh bytes) position) true .buffer)
+  where
+    after : ℕ → List ℕ → ℕ
+    after n [] = n
+    after n (x ∷ xs) = after (n * 256 + x) xs
 
--- 10: a channel's sample, as a pattern
+-- 10: a channel's sample from capacitor 0, as a pattern
 abbrev sample : ℕ → ℕ → ℕ
 sample output volume = toBits binary32 (sideOf (converter.stepped converter.fresh output false .«dac_out») volume true)
 
@@ -89,6 +92,10 @@ marked =
     ∷ row 4 (booted true 0xFF24) 0x77
     ∷ row 4 (booted true 0xFF25) 0xF3
     ∷ row 4 (booted true 0xFF26) 0xF1
+    ∷ row 4 (booted false 0xFF11) 0xBF
+    ∷ row 4 (booted false 0xFF12) 0xF3
+    ∷ row 4 (booted false 0xFF24) 0x77
+    ∷ row 4 (booted false 0xFF25) 0xF3
     ∷ row 4 (booted false 0xFF26) 0xF1
     -- 5. "Trigger with DAC on, add, shift 1: 1365 stays on, 1366 goes off."
     ∷ row 5 (on (started 0x01 1365)) 1
@@ -108,15 +115,9 @@ marked =
     ∷ row 8 (noise.steppedRegister 0x7FFF true) 0x3FBF
     ∷ row 8 (noise.steppedRegister 0x4001 true) 0x6040
     -- 9. "DMG wave trigger, timer 0: position 6, byte 0 from byte 3; 9, bytes 0..3 from 4..7; 31, none differ."
-    ∷ row 9 (byte 6 0) 19
-    ∷ row 9 (byte 6 1) 17
-    ∷ row 9 (byte 9 0) 20
-    ∷ row 9 (byte 9 1) 21
-    ∷ row 9 (byte 9 2) 22
-    ∷ row 9 (byte 9 3) 23
-    ∷ row 9 (byte 9 4) 20
-    ∷ row 9 (byte 31 0) 16
-    ∷ row 9 (byte 31 1) 17
+    ∷ row 9 (ram 6) 0x1311_1213_1415_1617_1819_1A1B_1C1D_1E1F
+    ∷ row 9 (ram 9) 0x1415_1617_1415_1617_1819_1A1B_1C1D_1E1F
+    ∷ row 9 (ram 31) 0x1011_1213_1415_1617_1819_1A1B_1C1D_1E1F
     -- 10. "Output 15, capacitor 0, volume 7: channel sample 3E4CCCCD."
     ∷ row 10 (sample 15 7) 0x3E4C_CCCD
     ∷ []

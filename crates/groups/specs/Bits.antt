@@ -5,11 +5,11 @@ use lib.Dec.{eqb, leb}
 use Rattle.ground.specs.Pick.{pick}
 use Rattle.parts.specs.declared.length.Length.{Length}
 
--- FFx3: the low eight bits of a frequency
+-- FF13, FF18, FF1D: the low eight bits of a frequency
 abbrev pub lowWritten : ℕ → ℕ → ℕ
 lowWritten frequency value = frequency / 256 * 256 + value
 
--- FFx4: the high three bits of a frequency
+-- FFx4 (not noise): the high three bits of a frequency
 abbrev pub highWritten : ℕ → ℕ → ℕ
 highWritten frequency value = frequency % 256 + value % 8 * 256
 

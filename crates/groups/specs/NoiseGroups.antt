@@ -17,12 +17,12 @@ use Rattle.groups.specs.Bits.{enableOf, triggerOf, controlByte}
 use Rattle.groups.specs.declared.noise_group.NoiseGroup.{NoiseGroup}
 use Rattle.groups.specs.declared.noise_group.NoiseSounded.{NoiseSounded}
 
--- "Ranges held from the start"
+-- "Ranges held from the start"; the maximal length is 64
 pub record Held (g : NoiseGroup) : Type 0 where
   pub length : length.Held 64 (g .length)
   pub channel : channel.Held (g .channel)
 
--- the range of its float, which no plain call asks
+-- the range of its capacitor, which no register or clock call asks
 abbrev pub FloatHeld : NoiseGroup → Type 0
 FloatHeld g = float.Held (g .converter)
 
@@ -40,19 +40,19 @@ withLength g l = record { converter = g .converter; length = l; channel = g .cha
 abbrev pub withChannel : NoiseGroup → NoiseChannel → NoiseGroup
 withChannel g c = record { converter = g .converter; length = g .length; channel = c }
 
--- FF20
+-- a write of FF20
 unfoldable pub lengthWritten : NoiseGroup → ℕ → NoiseGroup
 lengthWritten g value = withLength g (length.written (g .length) (value % 64))
 
--- FF21
+-- a write of FF21
 unfoldable pub envelopeWritten : NoiseGroup → ℕ → NoiseGroup
 envelopeWritten g value = withChannel g (channel.enveloped (g .channel) value)
 
--- FF22
+-- a write of FF22
 unfoldable pub noiseWritten : NoiseGroup → ℕ → NoiseGroup
 noiseWritten g value = withChannel g (channel.written (g .channel) value)
 
--- "An FFx4 write sets the frequency first (not noise), then length enable; newly enabled while the next position is even, length is clocked at once"
+-- "An FFx4 write sets .. then length enable; newly enabled while the next position .. is even, length is clocked at once"; the noise has no frequency
 unfoldable pub readied : NoiseGroup → Bool → ℕ → NoiseGroup
 readied g even value =
     let clocked = length.enabling (g .length) (enableOf value) even in
@@ -62,15 +62,15 @@ readied g even value =
       channel = withOn (g .channel) (g .channel .«channel_enabled» && not (clocked .off));
     }
 
--- a trigger of the length record, then "before the channel's own trigger rules" the channel on if its DAC is on
+-- a trigger: of the length record ("A trigger with counter 0 sets the maximum"), and of the channel
 unfoldable pub started : NoiseGroup → Bool → NoiseGroup
 started g even = record { converter = g .converter; length = length.triggered (g .length) even; channel = channel.triggered (g .channel) }
 
--- FFx4
+-- a write of FF23
 unfoldable pub controlled : NoiseGroup → Bool → ℕ → NoiseGroup
 controlled g even value = pick (triggerOf value) (started (readied g even value) even) (readied g even value)
 
--- a write at an offset in the five registers
+-- a write at an offset in the five registers; at 0 nothing, since FF1F is unused
 unfoldable pub written : NoiseGroup → ℕ → Bool → ℕ → NoiseGroup
 written g at even value =
     pick (eqb at 1) (lengthWritten g value)
@@ -79,7 +79,7 @@ written g at even value =
     (pick (eqb at 4) (controlled g even value)
     g)))
 
--- "OR masks on reading": 00 for FF21 and FF22, BF for FF23, FF for the others
+-- "OR masks on reading .. FF FF 00 00 BF"
 unfoldable pub byteOf : NoiseGroup → ℕ → ℕ
 byteOf g at =
     pick (eqb at 2) (envelope.byteOf (g .channel .envelope))
@@ -109,7 +109,7 @@ refilled g = withLength g (length.reset (g .length))
 unfoldable pub silenced : NoiseGroup → NoiseGroup
 silenced g = withChannel g (withOn (g .channel) false)
 
--- "Every channel's converter steps once per frame"
+-- "Every channel's converter steps once per frame": by FF24 and FF25, where the noise is number 3
 unfoldable pub sounded : NoiseGroup → ℕ → ℕ → NoiseSounded
 sounded g control selection =
     let after = voiced (g .converter) (channel.outputOf (g .channel)) (channel.mutedOf (g .channel)) control selection 3 in

@@ -17,12 +17,12 @@ use Rattle.groups.specs.Bits.{enableOf, triggerOf, controlByte, lowWritt
 use Rattle.groups.specs.declared.pulse_group.PulseGroup.{PulseGroup}
 use Rattle.groups.specs.declared.pulse_group.PulseSounded.{PulseSounded}
 
--- "Ranges held from the start"
+-- "Ranges held from the start"; the maximal length is 64
 pub record Held (g : PulseGroup) : Type 0 where
   pub length : length.Held 64 (g .length)
   pub channel : channel.Held (g .channel)
 
--- the range of its float, which no plain call asks
+-- the range of its capacitor, which no register or clock call asks
 abbrev pub FloatHeld : PulseGroup → Type 0
 FloatHeld g = float.Held (g .converter)
 
@@ -40,11 +40,11 @@ withLength g l = record { converter = g .converter; length = l; channel = g .cha
 abbrev pub withChannel : PulseGroup → PulseChannel → PulseGroup
 withChannel g c = record { converter = g .converter; length = g .length; channel = c }
 
--- FF10
+-- a write of FF10
 unfoldable pub sweepWritten : PulseGroup → ℕ → PulseGroup
 sweepWritten g value = withChannel g (channel.sweepWritten (g .channel) value)
 
--- FFx1: with power off "without their duty bits"
+-- a write of FF11 or FF16; with power off "without their duty bits"
 unfoldable pub lengthWritten : PulseGroup → Bool → ℕ → PulseGroup
 lengthWritten g power value =
     record {
@@ -53,15 +53,15 @@ lengthWritten g power value =
       channel = pick power (channel.dutyWritten (g .channel) (value / 64)) (g .channel);
     }
 
--- FFx2
+-- a write of FFx2
 unfoldable pub envelopeWritten : PulseGroup → ℕ → PulseGroup
 envelopeWritten g value = withChannel g (channel.enveloped (g .channel) value)
 
--- FFx3
+-- a write of FF13 or FF18
 unfoldable pub tuned : PulseGroup → ℕ → PulseGroup
 tuned g value = withChannel g (withFrequency (g .channel) (lowWritten (g .channel .frequency) value))
 
--- "An FFx4 write sets the frequency first (not noise), then length enable; newly enabled while the next position is even, length is clocked at once"
+-- "An FFx4 write sets the frequency first (not noise), then length enable; newly enabled while the next position .. is even, length is clocked at once"
 unfoldable pub readied : PulseGroup → Bool → ℕ → PulseGroup
 readied g even value =
     let clocked = length.enabling (g .length) (enableOf value) even in
@@ -71,15 +71,15 @@ readied g even value =
       channel = withOn (withFrequency (g .channel) (highWritten (g .channel .frequency) value)) (g .channel .«channel_enabled» && not (clocked .off));
     }
 
--- a trigger of the length record, then "before the channel's own trigger rules" the channel on if its DAC is on
+-- a trigger: of the length record ("A trigger with counter 0 sets the maximum"), and of the channel
 unfoldable pub started : PulseGroup → Bool → PulseGroup
 started g even = record { converter = g .converter; length = length.triggered (g .length) even; channel = channel.triggered (g .channel) }
 
--- FFx4
+-- a write of FFx4
 unfoldable pub controlled : PulseGroup → Bool → ℕ → PulseGroup
 controlled g even value = pick (triggerOf value) (started (readied g even value) even) (readied g even value)
 
--- a write at an offset in the five registers
+-- a write at an offset in the five registers; at 0 nothing, since FF10 is `sweepWritten` and FF15 is unused
 unfoldable pub written : PulseGroup → ℕ → Bool → Bool → ℕ → PulseGroup
 written g at power even value =
     pick (eqb at 1) (lengthWritten g power value)
@@ -88,7 +88,7 @@ written g at power even value =
     (pick (eqb at 4) (controlled g even value)
     g)))
 
--- "OR masks on reading": 3F for FFx1, 00 for FFx2, FF for FFx3, BF for FFx4
+-- "OR masks on reading .. FF 3F 00 FF BF"; FF10 is the unit's
 unfoldable pub byteOf : PulseGroup → ℕ → ℕ
 byteOf g at =
     pick (eqb at 1) (0x3F + g .channel .duty % 4 * 64)
@@ -126,7 +126,7 @@ refilled g = withLength g (length.reset (g .length))
 unfoldable pub silenced : PulseGroup → PulseGroup
 silenced g = withChannel g (withOn (g .channel) false)
 
--- "Every channel's converter steps once per frame"
+-- "Every channel's converter steps once per frame": by FF24, FF25 and the channel's number there, 0 or 1
 unfoldable pub sounded : PulseGroup → ℕ → ℕ → ℕ → PulseSounded
 sounded g control selection number =
     let after = voiced (g .converter) (channel.outputOf (g .channel)) (channel.mutedOf (g .channel)) control selection number in

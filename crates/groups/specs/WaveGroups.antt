@@ -16,12 +16,12 @@ use Rattle.groups.specs.Bits.{enableOf, triggerOf, controlByte, lowWritt
 use Rattle.groups.specs.declared.wave_group.WaveGroup.{WaveGroup}
 use Rattle.groups.specs.declared.wave_group.WaveSounded.{WaveSounded}
 
--- "Ranges held from the start"
+-- "Ranges held from the start"; the maximal length is 256
 pub record Held (g : WaveGroup) : Type 0 where
   pub length : length.Held 256 (g .length)
   pub channel : channel.Held (g .channel)
 
--- the range of its float, which no plain call asks
+-- the range of its capacitor, which no register or clock call asks
 abbrev pub FloatHeld : WaveGroup → Type 0
 FloatHeld g = float.Held (g .converter)
 
@@ -39,23 +39,23 @@ withLength g l = record { converter = g .converter; length = l; channel = g .cha
 abbrev pub withChannel : WaveGroup → WaveChannel → WaveGroup
 withChannel g c = record { converter = g .converter; length = g .length; channel = c }
 
--- FF1A: "wave FF1A bit 7" is the DAC
+-- a write of FF1A: "DAC is .. (wave FF1A bit 7)"
 unfoldable pub dacWritten : WaveGroup → ℕ → WaveGroup
 dacWritten g value = withChannel g (channel.dacSet (g .channel) (leb 128 value))
 
--- FF1B
+-- a write of FF1B
 unfoldable pub lengthWritten : WaveGroup → ℕ → WaveGroup
 lengthWritten g value = withLength g (length.written (g .length) value)
 
--- FF1C: bits 5 and 6
+-- a write of FF1C: bits 5 and 6 are the volume
 unfoldable pub volumeWritten : WaveGroup → ℕ → WaveGroup
 volumeWritten g value = withChannel g (channel.volumeWritten (g .channel) (value / 32))
 
--- FF1D
+-- a write of FF1D
 unfoldable pub tuned : WaveGroup → ℕ → WaveGroup
 tuned g value = withChannel g (withFrequency (g .channel) (lowWritten (g .channel .frequency) value))
 
--- "An FFx4 write sets the frequency first (not noise), then length enable; newly enabled while the next position is even, length is clocked at once"
+-- "An FFx4 write sets the frequency first (not noise), then length enable; newly enabled while the next position .. is even, length is clocked at once"
 unfoldable pub readied : WaveGroup → Bool → ℕ → WaveGroup
 readied g even value =
     let clocked = length.enabling (g .length) (enableOf value) even in
@@ -65,11 +65,11 @@ readied g even value =
       channel = withOn (withFrequency (g .channel) (highWritten (g .channel .frequency) value)) (g .channel .«channel_enable» && not (clocked .off));
     }
 
--- a trigger of the length record, then "before the channel's own trigger rules" the channel on if its DAC is on
+-- a trigger: of the length record ("A trigger with counter 0 sets the maximum"), and of the channel
 unfoldable pub started : WaveGroup → Bool → Bool → WaveGroup
 started g dmg even = record { converter = g .converter; length = length.triggered (g .length) even; channel = channel.triggered (g .channel) dmg }
 
--- FFx4
+-- a write of FF1E
 unfoldable pub controlled : WaveGroup → Bool → Bool → ℕ → WaveGroup
 controlled g dmg even value = pick (triggerOf value) (started (readied g even value) dmg even) (readied g even value)
 
@@ -87,7 +87,7 @@ written g at dmg even value =
 unfoldable pub ramWritten : WaveGroup → Bool → ℕ → ℕ → WaveGroup
 ramWritten g dmg offset value = withChannel g (channel.stored (g .channel) dmg offset value)
 
--- "OR masks on reading": 7F for FF1A, 9F for FF1C, BF for FF1E, FF for the others
+-- "OR masks on reading .. 7F FF 9F FF BF"
 unfoldable pub byteOf : WaveGroup → ℕ → ℕ
 byteOf g at =
     pick (eqb at 0) (0x7F + pick (g .channel .«dac_enable») 128 0)
@@ -117,7 +117,7 @@ refilled g = withLength g (length.reset (g .length))
 unfoldable pub silenced : WaveGroup → WaveGroup
 silenced g = withChannel g (withOn (g .channel) false)
 
--- "Every channel's converter steps once per frame"
+-- "Every channel's converter steps once per frame": by FF24 and FF25, where the wave is number 2
 unfoldable pub sounded : WaveGroup → ℕ → ℕ → WaveSounded
 sounded g control selection =
     let after = voiced (g .converter) (channel.outputOf (g .channel)) (channel.mutedOf (g .channel)) control selection 2 in

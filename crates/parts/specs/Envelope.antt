@@ -53,6 +53,7 @@ stepVolume volume increase = pick increase (pick (ltb volume 15) (volume + 1) vo
 abbrev pub goesOn : ℕ → Bool
 goesOn volume = not (eqb volume 0) && not (eqb volume 15)
 
+-- a step: the volume, and whether it runs on
 unfoldable pub stepped : Envelope → Envelope
 stepped e =
     let volume = stepVolume (e .«current_volume») (e .«sweep_increase») in

@@ -17,7 +17,7 @@ pub record Held (most : ℕ) (l : Length) : Type 0 where
 abbrev pub fresh : ℕ → Length
 fresh max = record { «max_length» = max; length = 0; «current_counter» = 0; «counter_decrease_enable» = false }
 
--- the record with another length and counter
+-- the record with another length and counter, with another counter alone, with length enabled or not
 abbrev pub withLength : Length → ℕ → Length
 withLength l length = record { «max_length» = l .«max_length»; length = length; «current_counter» = length; «counter_decrease_enable» = l .«counter_decrease_enable» }
 

@@ -4,14 +4,32 @@ use Rattle.apu.specs.Start.{skipped}
 use Rattle.apu.proofs.Apu.new_skip_boot_rom.Statement.{statement}
 use Rattle.apu.proofs.Apu.new_skip_boot_rom.Tie as tie
 
-pub new-skip-boot-rom-spec : {M : Type 1} → statement M
+new-requires : tie.Need-new-requires
+new-requires c κs = search needs
+
+write-envelope-register-requires : tie.Need-write-envelope-register-requires
+write-envelope-register-requires c κs = search needs
+
+write-pattern-duty-requires : tie.Need-write-pattern-duty-requires
+write-pattern-duty-requires c κs = search needs
+
+set-enable-requires : tie.Need-set-enable-requires
+set-enable-requires c κs = search needs
+
+write-sound-length-requires : tie.Need-write-sound-length-requires
+write-sound-length-requires c κs = search needs
+
+returns : tie.Need-returns
 unfolding skipped
+returns c = rw (c .write-sound-length .ensures, c .before .before .before .set-enable .ensures, c .before .before .before .before .write-pattern-duty .ensures, c .before .before .before .before .before .write-envelope-register .ensures, c .before .before .before .before .before .before .before .before .before .new .ensures)
+
+pub new-skip-boot-rom-spec : {M : Type 1} → statement M
 new-skip-boot-rom-spec =
     tie.close
     (tie.spec
-    (λ c κs. search needs)
-    (λ c κs. search needs)
-    (λ c κs. search needs)
-    (λ c κs. search needs)
-    (λ c κs. search needs)
-    (λ c. rw (c .write-sound-length .ensures, c .before .before .before .set-enable .ensures, c .before .before .before .before .write-pattern-duty .ensures, c .before .before .before .before .before .write-envelope-register .ensures, c .before .before .before .before .before .before .before .before .before .new .ensures)))
+    new-requires
+    write-envelope-register-requires
+    write-pattern-duty-requires
+    set-enable-requires
+    write-sound-length-requires
+    returns)

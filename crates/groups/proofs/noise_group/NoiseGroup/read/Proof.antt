@@ -6,15 +6,39 @@ use Rattle.groups.specs.NoiseGroups.{byteOf}
 use Rattle.groups.proofs.noise_group.NoiseGroup.read.Statement.{statement}
 use Rattle.groups.proofs.noise_group.NoiseGroup.read.Tie as tie
 
-pub read-spec : {M : Type 1} → statement M
+read-envelope-register-requires : tie.Need-read-envelope-register-requires
+read-envelope-register-requires c κs = search needs
+
+read-noise-register-requires : tie.Need-read-noise-register-requires
+read-noise-register-requires c κs = search needs
+
+control-byte-requires : tie.Need-control-byte-requires
+control-byte-requires c κs = search needs
+
+returns : tie.Need-returns
 unfolding pick byteOf
+returns c = rw (c .read-envelope-register .ensures, c .before .match .keys1)
+
+returns-2 : tie.Need-returns-2
+unfolding pick byteOf
+returns-2 c = rw (c .read-noise-register .ensures, c .before .match .keys2)
+
+returns-3 : tie.Need-returns-3
+unfolding pick byteOf
+returns-3 c = rw (c .control-byte .ensures, c .before .match .keys3)
+
+returns-4 : tie.Need-returns-4
+unfolding pick byteOf
+returns-4 c = rw (ne-eqb _ _ (c .match .rest .0 .0 .1), ne-eqb _ _ (c .match .rest .0 .1), ne-eqb _ _ (c .match .rest .1))
+
+pub read-spec : {M : Type 1} → statement M
 read-spec =
     tie.close
     (tie.spec
-    (λ c κs. search needs)
-    (λ c κs. search needs)
-    (λ c κs. search needs)
-    (λ c. rw (c .read-envelope-register .ensures, c .before .match .keys1))
-    (λ c. rw (c .read-noise-register .ensures, c .before .match .keys2))
-    (λ c. rw (c .control-byte .ensures, c .before .match .keys3))
-    (λ c. rw (ne-eqb _ _ (c .match .rest .0 .0 .1), ne-eqb _ _ (c .match .rest .0 .1), ne-eqb _ _ (c .match .rest .1))))
+    read-envelope-register-requires
+    read-noise-register-requires
+    control-byte-requires
+    returns
+    returns-2
+    returns-3
+    returns-4)

@@ -7,12 +7,25 @@ use Rattle.groups.proofs.Ranges.{pulse-readied-held}
 use Rattle.groups.proofs.pulse_group.PulseGroup.write_control.Statement.{statement}
 use Rattle.groups.proofs.pulse_group.PulseGroup.write_control.Tie as tie
 
-pub write-control-spec : {M : Type 1} → statement M
+ready-requires : tie.Need-ready-requires
+ready-requires c κs = search needs
+
+start-requires : tie.Need-start-requires
+start-requires c κs = rw (c .before .ready .ensures) (pulse-readied-held _ (c .before .before .pre) _ _)
+
+returns : tie.Need-returns
 unfolding pick controlled
+returns c = rw (c .start .ensures, c .before .before .ready .ensures, le-leb _ _ (c .before .if1 .taken))
+
+returns-2 : tie.Need-returns-2
+unfolding pick controlled
+returns-2 c = rw (c .before .ready .ensures, lt-leb _ _ (c .if1 .left))
+
+pub write-control-spec : {M : Type 1} → statement M
 write-control-spec =
     tie.close
     (tie.spec
-    (λ c κs. search needs)
-    (λ c κs. rw (c .before .ready .ensures) (pulse-readied-held _ (c .before .before .pre) _ _))
-    (λ c. rw (c .start .ensures, c .before .before .ready .ensures, le-leb _ _ (c .before .if1 .taken)))
-    (λ c. rw (c .before .ready .ensures, lt-leb _ _ (c .if1 .left))))
+    ready-requires
+    start-requires
+    returns
+    returns-2)

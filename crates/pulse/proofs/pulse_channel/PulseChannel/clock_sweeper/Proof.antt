@@ -4,10 +4,16 @@ use Rattle.pulse.specs.Pulse.{sweepClocked}
 use Rattle.pulse.proofs.pulse_channel.PulseChannel.clock_sweeper.Statement.{statement}
 use Rattle.pulse.proofs.pulse_channel.PulseChannel.clock_sweeper.Tie as tie
 
-pub clock-sweeper-spec : {M : Type 1} → statement M
+clock-sweeper-requires : tie.Need-clock-sweeper-requires
+clock-sweeper-requires c κs = search needs
+
+returns : tie.Need-returns
 unfolding sweepClocked
+returns c = rw (c .before .before .before .clock-sweeper .ensures)
+
+pub clock-sweeper-spec : {M : Type 1} → statement M
 clock-sweeper-spec =
     tie.close
     (tie.spec
-    (λ c κs. search needs)
-    (λ c. rw (c .before .before .before .clock-sweeper .ensures)))
+    clock-sweeper-requires
+    returns)
