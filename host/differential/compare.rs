@@ -4,7 +4,8 @@ use crate::original;
 use crate::player::{self, Items, Played, Refusal};
 
 const FILL: u8 = 0xA5;
-const GUARD: usize = 32;
+// Bytes past the output that must stay: room for three frames too many.
+const GUARD: usize = 128;
 
 /// What was compared.
 #[derive(Clone, Copy, Default)]

@@ -1,0 +1,163 @@
+//! Times the proved player and the original on the same logs, in one run and by turns, and prints medians, their spread and the ratio.
+#[path = "../differential/log.rs"]
+#[allow(dead_code)]
+mod log;
+#[path = "../differential/player.rs"]
+#[allow(dead_code)]
+mod player;
+
+use log::Record;
+use oracle::{apu::Apu, GameBoyConfig};
+use std::time::Instant;
+
+// Working clocks a second of the machine that is imitated.
+const REAL_TIME: f64 = 1_048_576.0;
+
+/// A log of one kind.
+struct Family {
+    name: &'static str,
+    records: Vec<Record>,
+}
+
+fn write(addr: u16, value: u8) -> Record {
+    Record::Write { addr, value }
+}
+
+// Power and volumes, and all four channels triggered: pulse frequencies and FF22 as given.
+fn sounding(frequency: u16, wave: u16, noise: u8) -> Vec<Record> {
+    let (low, high) = (frequency as u8, 0x80 | (frequency >> 8) as u8);
+    let mut records = vec![write(0xFF26, 0x80), write(0xFF24, 0x77), write(0xFF25, 0xFF), write(0xFF11, 0x80), write(0xFF12, 0xF0), write(0xFF13, low), write(0xFF14, high)];
+    records.extend([write(0xFF16, 0x40), write(0xFF17, 0xF0), write(0xFF18, low ^ 0x35), write(0xFF19, high), write(0xFF1A, 0x80), write(0xFF1C, 0x20)]);
+    records.extend((0..16).map(|i| write(0xFF30 + i, (i * 37 + 11) as u8)));
+    records.extend([write(0xFF1D, wave as u8), write(0xFF1E, 0x80 | (wave >> 8) as u8), write(0xFF21, 0xF0), write(0xFF22, noise), write(0xFF23, 0x80)]);
+    records
+}
+
+// Clock records of `count` calls each, `calls` in all, with the divider as it would run: up by 1 every 64 calls.
+fn clocks(records: &mut Vec<Record>, double: bool, count: u16, calls: u32) {
+    for i in 0..calls / u32::from(count) {
+        records.push(Record::Clock { double, divider: (i * u32::from(count) / 64) as u8, count });
+    }
+}
+
+fn family(name: &'static str, mut records: Vec<Record>, double: bool, count: u16, calls: u32) -> Family {
+    clocks(&mut records, double, count, calls);
+    Family { name, records }
+}
+
+fn families() -> Vec<Family> {
+    let off = vec![write(0xFF26, 0x00)];
+    vec![
+        family("long records, four channels", sounding(0x6D6, 0x600, 0x44), false, 16384, 4_194_304),
+        family("long records, double speed", sounding(0x6D6, 0x600, 0x44), true, 16384, 4_194_304),
+        family("records of 1,000 calls", sounding(0x6D6, 0x600, 0x44), false, 1000, 2_000_000),
+        family("records of 64 calls", sounding(0x6D6, 0x600, 0x44), false, 64, 512_000),
+        family("records of 64 calls, double speed", sounding(0x6D6, 0x600, 0x44), true, 64, 512_000),
+        family("power off, long records", off.clone(), false, 16384, 4_194_304),
+        family("power off, records of 64 calls", off, false, 64, 512_000),
+        family("highest frequencies, long records", sounding(0x7FF, 0x7FF, 0x00), false, 16384, 4_194_304),
+        family("highest frequencies, 64 calls", sounding(0x7FF, 0x7FF, 0x00), false, 64, 512_000),
+        family("noise at its fastest, long records", sounding(0x6D6, 0x600, 0xE8), false, 16384, 4_194_304),
+        family("noise at its fastest, 64 calls", sounding(0x6D6, 0x600, 0xE8), false, 64, 512_000),
+    ]
+}
+
+// The original: its own unit, driven by the records, its buffers taken after each clock record as a renderer would; nothing is turned into bytes.
+fn original(records: &[Record]) -> usize {
+    let mut unit = Apu::new(GameBoyConfig { is_dmg: true });
+    let mut numbers = 0;
+    for record in records {
+        match *record {
+            Record::Write { addr, value } => unit.write_register(addr, value),
+            Record::Clock { double, divider, count } => {
+                for _ in 0..count {
+                    unit.clock(double, divider);
+                }
+                numbers += unit.get_buffers().all().len();
+            }
+            _ => {}
+        }
+    }
+    numbers / 2
+}
+
+fn median(times: &mut [f64]) -> f64 {
+    times.sort_by(f64::total_cmp);
+    times[times.len() / 2]
+}
+
+// Both sides by turns; prints the line and gives the ratio.
+fn measure(family: &Family, rounds: usize, out: &mut [u8]) -> f64 {
+    let log = log::bytes(1, &family.records);
+    let (mut calls, mut working) = (0.0, 0.0);
+    for record in &family.records {
+        if let Record::Clock { count, double, .. } = *record {
+            calls += f64::from(count);
+            working += f64::from(count) / if double { 2.0 } else { 1.0 };
+        }
+    }
+    let (mut theirs, mut ours) = (Vec::new(), Vec::new());
+    for _ in 0..rounds {
+        let began = Instant::now();
+        let frames = original(&family.records);
+        theirs.push(began.elapsed().as_secs_f64());
+        let began = Instant::now();
+        let played = player::play(&log, out).expect("a right log with room");
+        ours.push(began.elapsed().as_secs_f64());
+        assert_eq!(played.frames, frames as u64, "{}: the two made different numbers of frames", family.name);
+    }
+    let (slow, fast) = (median(&mut theirs), median(&mut ours));
+    let rate = |times: &[f64], middle: f64| format!("{:.1} ({:.2})", calls / middle / 1e6, times[times.len() - 1] / times[0]);
+    println!("{:36} {:>16} {:>16} {:>10.0} {:>7.2}", family.name, rate(&theirs, slow), rate(&ours, fast), working / fast / REAL_TIME, slow / fast);
+    slow / fast
+}
+
+// The peak of this process's memory so far, in kB.
+fn peak() -> u64 {
+    let status = std::fs::read_to_string("/proc/self/status").unwrap_or_default();
+    let line = status.lines().find(|line| line.starts_with("VmHWM")).unwrap_or("VmHWM: 0 kB");
+    line.split_whitespace().nth(1).and_then(|word| word.parse().ok()).unwrap_or(0)
+}
+
+// The log with the most calls that fits in 65,536 bytes: what its scan costs, its playing, and its memory beside log and output.
+fn largest() {
+    let log = |count| log::bytes(1, &vec![Record::Clock { double: false, divider: 0, count }; 65534 / 7]);
+    let scan = |log: &[u8]| {
+        let mut times: Vec<f64> = (0..9).map(|_| {
+            let began = Instant::now();
+            player::play(log, &mut []).expect_err("an output without room");
+            began.elapsed().as_secs_f64()
+        }).collect();
+        median(&mut times) * 1e6
+    };
+    let (most, least) = (scan(&log(16384)), scan(&log(1)));
+    let mut out = vec![1u8; 270 << 20];
+    let before = peak();
+    let began = Instant::now();
+    let played = player::play(&log(16384), &mut out).expect("a right log with room");
+    let took = began.elapsed().as_secs_f64();
+    println!(
+        "the largest log: {} records, {} calls, {} frames: scanned in {most:.0} us (as many records of one call: {least:.0} us), played in {took:.2} s, peak memory {} kB more than before",
+        played.records,
+        played.clocks,
+        played.frames,
+        peak() - before
+    );
+}
+
+fn main() {
+    let words: Vec<String> = std::env::args().collect();
+    let rounds: usize = words.get(1).map_or(9, |word| word.parse().expect("bench [ROUNDS]")).max(7);
+    let mut out = vec![0u8; 16 << 20];
+    println!("{rounds} rounds, each side by turns; medians of millions of clock calls a second, in brackets slowest over fastest round");
+    println!("{:36} {:>16} {:>16} {:>10} {:>7}", "", "the crate", "this port", "real time", "ratio");
+    let mut ratios: Vec<f64> = families().iter().map(|family| measure(family, rounds, &mut out)).collect();
+    println!("where a record's own cost shows, against the crate's bare calls:");
+    let short = |name, count| family(name, sounding(0x6D6, 0x600, 0x44), false, count, 8000 * u32::from(count));
+    for family in [short("records of 1 call", 1), short("records of 4 calls", 4), short("records of 8 calls", 8), short("records of 16 calls", 16)] {
+        measure(&family, rounds, &mut out);
+    }
+    largest();
+    let typical = median(&mut ratios);
+    println!("ratio of the crate's time to this port's, over the first table: worst {:.2}, typical {typical:.2}", ratios[0]);
+}
