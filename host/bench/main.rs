@@ -154,10 +154,11 @@ fn main() {
     let mut ratios: Vec<f64> = families().iter().map(|family| measure(family, rounds, &mut out)).collect();
     println!("where a record's own cost shows, against the crate's bare calls:");
     let short = |name, count| family(name, sounding(0x6D6, 0x600, 0x44), false, count, 8000 * u32::from(count));
+    let mut least = f64::MAX;
     for family in [short("records of 1 call", 1), short("records of 4 calls", 4), short("records of 8 calls", 8), short("records of 16 calls", 16)] {
-        measure(&family, rounds, &mut out);
+        least = least.min(measure(&family, rounds, &mut out));
     }
     largest();
     let typical = median(&mut ratios);
-    println!("ratio of the crate's time to this port's, over the first table: worst {:.2}, typical {typical:.2}", ratios[0]);
+    println!("ratio of the crate's time to this port's: worst {:.2}, typical {typical:.2} over the first table; with the shortest records {least:.2}", ratios[0]);
 }
