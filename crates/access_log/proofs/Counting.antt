@@ -6,15 +6,14 @@ use native.Mathlib.Omega.{arith}
 use native.Mathlib.Nat.{add-assoc, add-zero, zero-add}
 use lib.ListN.{length}
 use Rattle.records.specs.declared.judge.Record.{Record}
-use Rattle.records.specs.declared.cut.Cut.the-variants.{End, Short, Body}
+use Rattle.records.specs.declared.cut.Cut.the-variants.{End, Short}
 use Rattle.access_log.specs.declared.scan.Mark.{Mark}
 use Rattle.access_log.specs.declared.scan.Mark.the-variants.{Clear, At}
 use Rattle.access_log.specs.declared.scan.Found.{Found}
-use Rattle.records.specs.Judge.{judgeOf}
-use Rattle.records.specs.Records.{Parsed, item, cutAt, bodyAt, recordsFrom, unrolled}
+use Rattle.records.specs.Records.{Parsed, item, cutAt, recordsFrom, unrolled}
 use Rattle.access_log.specs.Sums.{sumOf}
 use Rattle.access_log.specs.Scan.{Fits, orMark, wrongIn, both, nothing, foundIn, foundAll}
-use Rattle.records.proofs.Framing.{body-fits, at-end, at-short, at-body}
+use Rattle.records.proofs.Framing.{at-end, at-short}
 use Rattle.access_log.proofs.Bounds.{calls-low, halves-low, reads-low, count-low}
 
 or-assoc : (a b c : Mark) → orMark (orMark a b) c ≡ orMark a (orMark b c)
@@ -81,18 +80,19 @@ module _ {s : List ℕ} {at : ℕ} {t : Found} (g : Going s at t) where
   unfolding wrongIn sumOf
   cut-short e = rw (at-short s at e) at (g .state)
 
-  module _ (n : ℕ) (e : cutAt s at ≡ Body n) where
+  -- the next record, and where the one after it begins
+  module _ (r : Record) (next : ℕ) (is : recordsFrom s at ≡ item at r (recordsFrom s next)) where
     abbrev f : Found
-    f = foundIn at (judgeOf (bodyAt s at n))
+    f = foundIn at r
 
     abbrev rest : Found
-    rest = foundAll (recordsFrom s (at + 2 + n))
+    rest = foundAll (recordsFrom s next)
 
     state : both (both t f) rest ≡ foundAll (recordsFrom s 2)
-    state = both-assoc t f rest ∙ ap (both t) (sym (found-item at (judgeOf (bodyAt s at n)) (recordsFrom s (at + 2 + n)))) ∙ rw (at-body s at n e) at (g .state)
+    state = both-assoc t f rest ∙ ap (both t) (sym (found-item at r (recordsFrom s next))) ∙ rw is at (g .state)
 
-    pub turn : Going s (at + 2 + n) (both t f)
-    turn = record { state = state; inside = omega (arith, body-fits s at n e) }
+    pub turn : next ≤ length s → Going s next (both t f)
+    turn h = record { state = state; inside = omega arith }
 
     pub fits : length s ≤ 65536 → Fits t f
     fits h =

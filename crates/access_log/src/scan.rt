@@ -12,6 +12,7 @@ use clocks::sample_counter::half_clocks;
 use records::cut::Cut;
 use records::cut::cut_at;
 use records::judge::Record;
+use records::judge::clocks_at;
 use records::judge::judge;
 
 // A place in the log, or none.
@@ -127,20 +128,26 @@ pub fn scan_list(log: &[u8]) -> Found
     let mut found = none(Mark::Clear);
     let mut at: usize = 2;
     loop {
-        match cut_at(log, at) {
-            Cut::End => {
-                return found;
-            }
-            Cut::Short => {
-                let end = none(Mark::At { place: at });
-                return join(found, end);
-            }
-            Cut::Body { len } => {
-                let from = at + 2;
-                let to = from + len;
-                let more = scan_record(&log[from..to], at);
-                found = join(found, more);
-                at = to;
+        let clocks = clocks_at(log, at);
+        if clocks.right {
+            found = join(found, one_clock(clocks.double, clocks.count));
+            at += 7;
+        } else {
+            match cut_at(log, at) {
+                Cut::End => {
+                    return found;
+                }
+                Cut::Short => {
+                    let end = none(Mark::At { place: at });
+                    return join(found, end);
+                }
+                Cut::Body { len } => {
+                    let from = at + 2;
+                    let to = from + len;
+                    let more = scan_record(&log[from..to], at);
+                    found = join(found, more);
+                    at = to;
+                }
             }
         }
     }

@@ -1,90 +1,150 @@
--- No channel's number in a frame is a NaN, from a converter in its range: a quotient or product by a finite number other than 0 never is one. Assumes nothing.
-use mathlib.Core.Path.{_≡_, refl}
-use mathlib.Core.Bool.{Bool, true, false, cond}
-use Prim.Native.Nat.{ℕ, zero, suc, _+_, _-_, _*_, _%_, _/_, _^_, _≤_, compare}
+-- From converters in their ranges a channel's number in a frame lies within the f32 nearest to 0.2 and a sum of four within 1, whatever the signs: rounding
+-- keeps the order, so it is computed at the ends. So no number of a frame is a NaN. Assumes nothing.
+use mathlib.Core.Path.{_≡_, refl, sym, subst, _∙_}
+use mathlib.Core.Bool.{Bool, true, false, _&&_, Bool·beq, cond}
+use Prim.Native.Nat.{ℕ, _+_, _-_, _*_, _%_, _/_, _^_, _≤_, _<_}
+use native.Mathlib.Nat.{le-refl, le-trans, mul-le-mul-right, mul-le-mul-left}
 use native.Mathlib.Omega.{arith}
-use lib.Dec.{eqb, ltb}
+use lib.Dec.{ltb, lit<, lit≤}
+use lib.Pow.{pow-pos}
 use lib.IntN.{pos}
-use lib.Ieee.{Float, nan, inf, fin, Format, binary32, prec, emax, low, up, down, unlike, size, nearest, odd, units, round, add, mul, div, ofInt, ofBits, isNan}
+use lib.Ieee.{Float, nan, inf, fin, binary32, size, unlike, round, sum, add, mul, div, ofInt, ofBits, isNan}
+use lib.Ieee.Exact.{HasValue}
+use lib.Ieee.Back.{round-whole}
+use lib.Ieee.Scale.{grid}
+use Rattle.ground.proofs.Rounded.{grid-mono, grid-le, plus-sum, add-is, mul-is, div-is}
 use Rattle.frame.specs.Converter.{f0, stepped}
-use Rattle.frame.specs.Mixing.{f1, f5, f8, sideOf, sidesOf, voiced}
-use Rattle.frame.specs.Held.{one, Held, Within, Number, Numbers}
+use Rattle.frame.specs.Mixing.{f1, f5, f8, sideOf, sidesOf, voiced, sum4, mixed}
+use Rattle.frame.specs.Held.{one, fifth, Held, Within, Number, Numbers}
 use Rattle.frame.specs.declared.converter.Converter.{Converter}
-use Rattle.frame.proofs.Ranges.{stepped-within}
+use Rattle.frame.specs.declared.mixing.Sides.{Sides}
+use Rattle.frame.proofs.Ranges.{lands, int-value, sign, signed, sized, silent, stepped-within}
 
-odd-number : (d : ℕ) (s : Bool) (q k l : ℕ) → Number (odd d s q k l)
-unfolding odd isNan
-odd-number d s zero k l = tt
-odd-number d s (suc q) k l = tt
-
-inf-number : (s : Bool) → Number (inf s)
-unfolding isNan
-inf-number s = tt
-
-either-number : (b : Bool) (x y : Float) → Number x → Number y → Number (cond b x y)
-either-number true x y h k = h
-either-number false x y h k = k
-
-units-number : (f : Format) (s : Bool) (q k : ℕ) → Number (units f s q k)
-unfolding units
-units-number f s q k =
-    either-number (ltb (q * 2 ^ k) (2 ^ (low f + suc (emax f)))) (odd (suc (prec f)) s q k (low f)) (inf s) (odd-number (suc (prec f)) s q k (low f)) (inf-number s)
-
-round-number : (f : Format) (s : Bool) (num den : ℕ) → Number (round f s num den)
-unfolding round
-round-number f s num den =
-    let n = num * 2 ^ low f in
-    let k = size (n / den) - prec f in
-    let u = den * 2 ^ k in
-    units-number f s (nearest (n / u) (compare (n % u * 2) u)) k
-
--- a finite number other than 0
-abbrev Plain : Float → Type 0
-Plain nan = ⊥
-Plain (inf s) = ⊥
-Plain (fin s m e) = eqb m 0 ≡ false
-
-mul-number : (x y : Float) → Number x → Plain y → Number (mul binary32 x y)
-unfolding mul isNan
-mul-number nan y h p = absurd h
-mul-number (inf s) (fin t n d) h p = rw p tt
-mul-number (fin s m e) (fin t n d) h p = round-number binary32 (unlike s t) (m * up e * (n * up d)) (down e * down d)
-
-div-number : (x y : Float) → Number x → Plain y → Number (div binary32 x y)
-unfolding div isNan
-div-number nan y h p = absurd h
-div-number (inf s) (fin t n d) h p = tt
-div-number (fin s m e) (fin t n d) h p = rw p (round-number binary32 (unlike s t) (m * up e * down d) (n * up d * down e))
-
-f5-plain : Plain f5
+f1-value : HasValue f1 false 1 1
 unfolding ofBits
-f5-plain = refl
+f1-value = (refl, refl)
 
-f8-plain : Plain f8
+f5-value : HasValue f5 false 5 1
 unfolding ofBits
-f8-plain = refl
+f5-value = (refl, refl)
 
-loud-plain : (v : ℕ) → v ≤ 7 → Plain (add binary32 (ofInt binary32 (pos v)) f1)
-unfolding ofBits ofInt add
-loud-plain zero h = refl
-loud-plain (suc zero) h = refl
-loud-plain (suc (suc zero)) h = refl
-loud-plain (suc (suc (suc zero))) h = refl
-loud-plain (suc (suc (suc (suc zero)))) h = refl
-loud-plain (suc (suc (suc (suc (suc zero))))) h = refl
-loud-plain (suc (suc (suc (suc (suc (suc zero)))))) h = refl
-loud-plain (suc (suc (suc (suc (suc (suc (suc zero))))))) h = refl
-loud-plain (suc (suc (suc (suc (suc (suc (suc (suc n)))))))) h = absurd (omega arith)
+f8-value : HasValue f8 false 8 1
+unfolding ofBits
+f8-value = (refl, refl)
 
-zero-number : Number f0
-unfolding ofBits isNan
-zero-number = tt
+-- ---- a rounded fraction a / c is within what a fraction b / d above it rounds to
+lands-within : (x : Float) (s : Bool) (a c b d k : ℕ) → x ≡ round binary32 s a c → 0 < c → 0 < d → a * d ≤ b * c → grid binary32 b d ≤ k → k ≤ one → Within k x
+lands-within x s a c b d k e C D h g K =
+    let l : grid binary32 a c ≤ k = le-trans (grid-mono binary32 a c b d C D h) g in
+    sized k x s (grid binary32 a c) (lands x s a c e (le-trans l K)) l
 
--- a channel's number on one side
-side-number : (x : Float) (v : ℕ) (selected : Bool) → v ≤ 7 → Number x → Number (sideOf x v selected)
+-- times and by a whole number n
+mul-within : (x y : Float) (j n k : ℕ) → HasValue y false n 1 → Within j x → grid binary32 (j * n) (one * 1) ≤ k → k ≤ one → Within k (mul binary32 x y)
+mul-within x y j n k v w g K =
+    lands-within (mul binary32 x y) (unlike (sign x) false) (w .units * n) (one * 1) (j * n) (one * 1) k
+    (mul-is binary32 x y (sign x) false (w .units) one n 1 (pow-pos 149) (lit< tt) (signed x (w .units) one (w .is)) v)
+    (pow-pos 149) (pow-pos 149) (mul-le-mul-right (one * 1) (mul-le-mul-right n (w .most))) g K
+
+div-within : (x y : Float) (j n k : ℕ) → HasValue y false n 1 → 0 < n → 0 < one * n → Within j x → grid binary32 (j * 1) (one * n) ≤ k → k ≤ one
+    → Within k (div binary32 x y)
+div-within x y j n k v N P w g K =
+    lands-within (div binary32 x y) (unlike (sign x) false) (w .units * 1) (one * n) (j * 1) (one * n) k
+    (div-is binary32 x y (sign x) false (w .units) one n 1 (pow-pos 149) N (signed x (w .units) one (w .is)) v)
+    P P (mul-le-mul-right (one * n) (mul-le-mul-right 1 (w .most))) g K
+
+-- a sum, of whichever signs
+sum-within : (s t : Bool) (a b j l k : ℕ) → a ≤ j → b ≤ l → grid binary32 (j + l) one ≤ k → k ≤ one → Within k (sum binary32 s a t b one)
+unfolding sum
+sum-within s t a b j l k A B g K =
+    either (Bool·beq s t) (part s (a + b) (omega arith)) (either (ltb a b) (part t (b - a) (omega arith)) (part (s && ltb b a) (a - b) (omega arith)))
+  where
+    part : (r : Bool) (n : ℕ) → n ≤ j + l → Within k (round binary32 r n one)
+    part r n h = lands-within (round binary32 r n one) r n one (j + l) one k refl (pow-pos 149) (pow-pos 149) (mul-le-mul-right one h) g K
+
+    either : (r : Bool) {x y : Float} → Within k x → Within k y → Within k (cond r x y)
+    either true v w = v
+    either false v w = w
+
+add-within : (x y : Float) (j l k : ℕ) → Within j x → Within l y → grid binary32 (j + l) one ≤ k → k ≤ one → Within k (add binary32 x y)
+add-within x y j l k v w g K =
+    subst (λ (z : Float). Within k z)
+    (sym (add-is binary32 x y (sign x) (sign y) (v .units) (w .units) one (pow-pos 149) (signed x (v .units) one (v .is)) (signed y (w .units) one (w .is))))
+    (sum-within (sign x) (sign y) (v .units) (w .units) j l k (v .most) (w .most) g K)
+
+-- ---- a channel's number: an eighth, times 8 at most, and a fifth
+loud-value : (v : ℕ) → v ≤ 7 → HasValue (add binary32 (ofInt binary32 (pos v)) f1) false (v + 1) 1
+loud-value v h =
+    subst (λ (z : Float). HasValue z false (v + 1) 1)
+    (sym (add-is binary32 (ofInt binary32 (pos v)) f1 false false v 1 1 (lit< tt) (int-value v (le-trans h (lit≤ tt))) f1-value ∙ plus-sum binary32 v 1 1))
+    (round-whole binary32 false (v + 1) (omega arith))
+
+eighth : grid binary32 (one * 1) (one * 8) ≤ 2 ^ 146
+unfolding size
+eighth = lit≤ tt
+
+eight : grid binary32 (2 ^ 146 * 8) (one * 1) ≤ one
+unfolding size
+eight = lit≤ tt
+
+to-fifth : grid binary32 (one * 1) (one * 5) ≤ fifth
+unfolding size
+to-fifth = lit≤ tt
+
+side-within : (x : Float) (v : ℕ) (on : Bool) → v ≤ 7 → Within one x → Within fifth (sideOf x v on)
 unfolding sideOf
-side-number x v true l h = div-number _ f5 (mul-number _ _ (div-number x f8 h f8-plain) (loud-plain v l)) f5-plain
-side-number x v false l h = div-number f0 f5 zero-number f5-plain
+side-within x v on h w =
+    div-within (cond on (mul binary32 (div binary32 x f8) loud) f0) f5 one 5 fifth f5-value (lit< tt) (lit< tt) (chosen on) to-fifth (lit≤ tt)
+  where
+    loud : Float
+    loud = add binary32 (ofInt binary32 (pos v)) f1
+
+    chosen : (on : Bool) → Within one (cond on (mul binary32 (div binary32 x f8) loud) f0)
+    chosen true =
+        let most : v + 1 ≤ 8 = omega arith in
+        mul-within (div binary32 x f8) loud (2 ^ 146) (v + 1) one (loud-value v h)
+        (div-within x f8 one 8 (2 ^ 146) f8-value (lit< tt) (lit< tt) w eighth (lit≤ tt))
+        (le-trans (grid-le binary32 (2 ^ 146 * (v + 1)) (2 ^ 146 * 8) (one * 1) (pow-pos 149) (mul-le-mul-left (2 ^ 146) most)) eight) (le-refl one)
+    chosen false = silent
+
+-- ---- a sum of four: 0.2 + 0.2 is within 0.5, with 0.2 more within 0.75, and with 0.2 more within 1
+two-of : grid binary32 (fifth + fifth) one ≤ 2 ^ 148
+unfolding size
+two-of = lit≤ tt
+
+three-of : grid binary32 (2 ^ 148 + fifth) one ≤ 3 * 2 ^ 147
+unfolding size
+three-of = lit≤ tt
+
+four-of : grid binary32 (3 * 2 ^ 147 + fifth) one ≤ one
+unfolding size
+four-of = lit≤ tt
+
+sum-within-one : (a b c d : Float) → Within fifth a → Within fifth b → Within fifth c → Within fifth d → Within one (sum4 a b c d)
+sum-within-one a b c d p q r s =
+    add-within (add binary32 (add binary32 a b) c) d (3 * 2 ^ 147) fifth one
+    (add-within (add binary32 a b) c (2 ^ 148) fifth (3 * 2 ^ 147) (add-within a b fifth fifth (2 ^ 148) p q two-of (lit≤ tt)) r three-of (lit≤ tt))
+    s four-of (le-refl one)
+
+-- ---- a frame's numbers
+pub record SidesWithin (k : ℕ) (s : Sides) : Type 0 where
+  pub right : Within k (s .right)
+  pub left : Within k (s .left)
+
+pub voiced-within : (d : Converter) (o : ℕ) (muted : Bool) (control selection channel : ℕ) → o ≤ 15 → Held d
+    → SidesWithin fifth (voiced d o muted control selection channel .sides)
+unfolding voiced sidesOf
+voiced-within d o muted control selection channel l h =
+    let out = stepped-within d o muted l h in
+    record { right = side-within _ (control % 8) _ (omega arith) out; left = side-within _ (control / 16 % 8) _ (omega arith) out }
+
+pub mixed-within : (p q w n : Sides) → SidesWithin fifth p → SidesWithin fifth q → SidesWithin fifth w → SidesWithin fifth n
+    → SidesWithin one (mixed p q w n .all)
+unfolding mixed
+mixed-within p q w n a b c d =
+    record {
+      right = sum-within-one _ _ _ _ (a .right) (b .right) (c .right) (d .right);
+      left = sum-within-one _ _ _ _ (a .left) (b .left) (c .left) (d .left);
+    }
 
 within-number : (k : ℕ) (x : Float) → Within k x → Number x
 unfolding isNan
@@ -92,11 +152,5 @@ within-number k nan w = absurd (w .is)
 within-number k (inf s) w = tt
 within-number k (fin s m e) w = tt
 
-pub voiced-numbers : (d : Converter) (o : ℕ) (muted : Bool) (control selection channel : ℕ) → o ≤ 15 → Held d → Numbers (voiced d o muted control selection channel .sides)
-unfolding voiced sidesOf
-voiced-numbers d o muted control selection channel l h =
-    let n = within-number one (stepped d o muted .«dac_out») (stepped-within d o muted l h) in
-    record {
-      right = side-number _ (control % 8) _ (omega arith) n;
-      left = side-number _ (control / 16 % 8) _ (omega arith) n;
-    }
+pub within-numbers : (k : ℕ) (s : Sides) → SidesWithin k s → Numbers s
+within-numbers k s w = record { right = within-number k (s .right) (w .right); left = within-number k (s .left) (w .left) }

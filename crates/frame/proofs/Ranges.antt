@@ -26,7 +26,7 @@ keep-value : HasValue keep false 16710107 (2 ^ 24)
 unfolding ofBits
 keep-value = (refl, refl)
 
-f0-value : HasValue f0 false 0 one
+pub f0-value : HasValue f0 false 0 one
 unfolding ofBits
 f0-value = (refl, refl)
 
@@ -97,7 +97,7 @@ tops = each (λ o. snap (input o + scaled (snap (one - input o)))) (λ o. one) t
 under : (a : ℕ) → a ≤ one → a < overflow binary32
 under a h = lt-of-le-of-lt h (lit< tt)
 
-lands : (x : Float) (s : Bool) (a c : ℕ) → x ≡ round binary32 s a c → grid binary32 a c ≤ one → HasValue x s (grid binary32 a c) one
+pub lands : (x : Float) (s : Bool) (a c : ℕ) → x ≡ round binary32 s a c → grid binary32 a c ≤ one → HasValue x s (grid binary32 a c) one
 lands x s a c e h = subst (λ (z : Float). HasValue z s (grid binary32 a c) one) (sym e) (rounded binary32 s a c (under (grid binary32 a c) h))
 
 snapped : (x : Float) (s : Bool) (a : ℕ) → x ≡ round binary32 s a one → snap a ≤ one → HasValue x s (snap a) one
@@ -109,7 +109,7 @@ unfolding scaled
 kept x s g v h = lands (mul binary32 x keep) (unlike s false) (g * 16710107) (one * 2 ^ 24) (mul-is binary32 x keep s false g one 16710107 (2 ^ 24) (pow-pos 149) (pow-pos 24) v keep-value) h
 
 -- a small whole number as an f32
-int-value : (n : ℕ) → n ≤ 15 → HasValue (ofInt binary32 (pos n)) false n 1
+pub int-value : (n : ℕ) → n ≤ 15 → HasValue (ofInt binary32 (pos n)) false n 1
 unfolding ofInt
 int-value n h = round-whole binary32 false n (le-trans h (lit≤ tt))
 
@@ -121,12 +121,12 @@ input-value o h =
     (whole o h)
 
 -- ---- sizes alone
-sign : Float → Bool
+pub sign : Float → Bool
 sign nan = false
 sign (inf s) = s
 sign (fin s m e) = s
 
-signed : (x : Float) (a c : ℕ) → Equals x a c → HasValue x (sign x) a c
+pub signed : (x : Float) (a c : ℕ) → Equals x a c → HasValue x (sign x) a c
 unfolding sign
 signed nan a c p = absurd p
 signed (inf s) a c p = absurd p
@@ -137,10 +137,10 @@ size-of nan s a c p = p
 size-of (inf t) s a c p = p
 size-of (fin t m e) s a c p = p .1
 
-sized : (k : ℕ) (x : Float) (s : Bool) (a : ℕ) → HasValue x s a one → a ≤ k → Within k x
+pub sized : (k : ℕ) (x : Float) (s : Bool) (a : ℕ) → HasValue x s a one → a ≤ k → Within k x
 sized k x s a v h = record { units = a; is = size-of x s a one v; most = h }
 
-silent : Within one f0
+pub silent : Within one f0
 silent = sized one f0 false 0 f0-value zero-le
 
 either : (a b : ℕ) → a < b ⊎ b ≤ a

@@ -1,5 +1,5 @@
 -- The ranges of a frame's floats, over whole numbers of 2 ^ -149, the smallest f32 above zero. No register or clock call asks them. Assumes nothing.
-use Prim.Native.Nat.{ℕ, _^_, _≤_}
+use Prim.Native.Nat.{ℕ, _*_, _^_, _≤_}
 use mathlib.Core.Bool.{false, not}
 use lib.Dec.{T}
 use lib.Ieee.{Float, binary32, fits, isNan}
@@ -11,6 +11,10 @@ use Rattle.frame.specs.declared.mixing.Sides.{Sides}
 -- 1.0 in units of 2 ^ -149
 abbrev pub one : ℕ
 one = 2 ^ 149
+
+-- the f32 nearest to 0.2, 3E4CCCCD, in those units
+abbrev pub fifth : ℕ
+fifth = 13421773 * 2 ^ 123
 
 -- c lies from 0 to 1: finite, without a sign, and exactly so many units, no more than 1.0 has
 pub record Charge (c : Float) : Type 0 where

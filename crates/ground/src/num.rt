@@ -34,6 +34,14 @@ pub fn flag16(set: bool, weight: u16) -> u16
     if set { weight } else { 0 }
 }
 
+// A flag's weight where it is set, else 0.
+pub fn flag32(set: bool, weight: u32) -> u32
+    ensures { λ r. ⌜ r ≡ pick set weight 0 ⌝ }
+    ensures { λ r. ⌜ r ≤ weight ⌝ }
+{
+    if set { weight } else { 0 }
+}
+
 // What a sweep's or an envelope's counter reloads to: the period, where 0 counts as 8.
 pub fn reload(period: u8) -> u8
     ensures { λ r. ⌜ r ≡ reloadOf period ⌝ }

@@ -42,6 +42,13 @@ unfolding iterate toneClocked
 tone-stands r zero a = refl
 tone-stands r (suc n) a = ap (iterate n (toneClocked false r)) (pick-false _ _ _ refl) ∙ tone-stands r n a
 
+-- the same by whether it was ever triggered: where not, a run of no clocks
+pub tone-either : (started : Bool) (a : Tone) (r n : ℕ) (run : Run) → ToneHeld a → run ≡ countedDown (a .«frequency_timer») (r + 1) (pick started n 0)
+    → record { «sequencer_position» = (a .«sequencer_position» + run .steps) % 8; «frequency_timer» = run .timer } ≡ iterate n (toneClocked started r) a
+unfolding pick iterate
+tone-either true a r n run h e = tone-ran a r n run h e
+tone-either false a r n run h e = tone-ran a r 0 run h e ∙ sym (tone-stands r n a)
+
 -- ---- the channel's clock
 pub tone-part : (p : PulseChannel) (t : Tone) → clocked (withTone p t) ≡ withTone p (toneClocked (p .«first_trigger») (2047 - p .frequency) t)
 unfolding clocked ticked toneClocked

@@ -1,16 +1,20 @@
 -- How a loop walks a log: what the records from a place on are, by what stands there. Assumes nothing.
-use Prim.Native.Nat.{ℕ, _+_, _-_, _≤_}
-use mathlib.Core.Path.{_≡_, refl, _∙_, ap}
+use Prim.Native.Nat.{ℕ, _+_, _-_, _≤_, _<_}
+use mathlib.Core.Path.{_≡_, refl, _∙_, ap, ap₂}
 use mathlib.Core.List.{List, [], _∷_}
 use mathlib.Core.Bool.{Bool, true, false}
 use native.Mathlib.Omega.{arith}
-use borrow.Author.Tests.{ltb-false, leb-false}
+use borrow.Author.Tests.{ltb-false, leb-false, leb-true, eqb-true, lt-leb, le-ltb}
 use lib.ListN.{length}
-use lib.Dec.{ltb, leb}
+use lib.Dec.{ltb, leb, eqb}
 use Rattle.ground.specs.Pick.{pick}
 use Rattle.records.specs.declared.cut.Cut.the-variants.{End, Short, Body}
-use Rattle.records.specs.Judge.{word, judgeOf}
-use Rattle.records.specs.Records.{done, short, item, cutAt, bodyAt, grow, recordsFrom, records-step, unrolled}
+use Rattle.records.specs.declared.judge.Record.{Record}
+use Rattle.records.specs.declared.judge.Record.the-variants.{Clock}
+use Rattle.records.specs.declared.judge.Clocks.{Clocks}
+use Rattle.records.specs.Judge.{word, judgeOf, noClocks, clocksOf}
+use Rattle.records.specs.Records.{done, short, item, cutAt, bodyAt, clocksAt, grow, recordsFrom, records-step, unrolled}
+use Rattle.records.proofs.Judged.{clock-is, clocks-few}
 
 -- a body lies within its log
 pub body-fits : (s : List ℕ) (at n : ℕ) → cutAt s at ≡ Body n → at + 2 + n ≤ length s
@@ -51,3 +55,44 @@ module _ (s : List ℕ) (at : ℕ) where
 
   pub list-body : (n : ℕ) → cutAt s at ≡ Body n → unrolled (recordsFrom s at) ≡ judgeOf (bodyAt s at n) ∷ unrolled (recordsFrom s (at + 2 + n))
   list-body n e = ap unrolled (at-body n e)
+
+-- ---- a clock record at a place: it is the next record, and the one after it begins seven bytes on
+pub record Stands (s : List ℕ) (at : ℕ) (c : Clocks) : Type 0 where
+  pub fits : at + 7 ≤ length s
+  pub some : 1 ≤ c .count
+  pub few : c .count ≤ 16384
+  pub is : recordsFrom s at ≡ item at (Clock (c .double) (c .divider) (c .count)) (recordsFrom s (at + 7))
+
+five-cut : (s : List ℕ) (at : ℕ) → at + 7 ≤ length s → word s at ≡ 5 → cutAt s at ≡ Body 5
+unfolding cutAt pick
+five-cut s at h e =
+    let here : at < length s = omega arith in
+    let two : 2 ≤ length s - at = omega arith in
+    let five : 5 ≤ length s - at - 2 = omega arith in
+    rw (lt-leb (length s) at here, le-ltb (length s - at) 2 two, e, le-ltb (length s - at - 2) 5 five)
+
+pub clocks-stand : (s : List ℕ) (at : ℕ) → clocksAt s at .right ≡ true → Stands s at (clocksAt s at)
+unfolding clocksAt pick
+clocks-stand s at = go (leb (at + 7) (length s)) (eqb (word s at) 5) refl refl
+  where
+    body : List ℕ
+    body = bodyAt s at 5
+
+    next : at + 2 + 5 ≡ at + 7
+    next = omega arith
+
+    go : (a b : Bool) → leb (at + 7) (length s) ≡ a → eqb (word s at) 5 ≡ b
+        → let c = pick a (pick b (clocksOf (judgeOf body)) noClocks) noClocks in c .right ≡ true → Stands s at c
+    go true true x y e =
+        let fits = leb-true (at + 7) (length s) x in
+        let few = clocks-few body e in
+        record {
+          fits = fits;
+          some = few .0;
+          few = few .1;
+          is =
+              at-body s at 5 (five-cut s at fits (eqb-true (word s at) 5 y))
+              ∙ ap₂ (λ (r : Record) (n : ℕ). item at r (recordsFrom s n)) (clock-is (judgeOf body) e) next;
+        }
+    go true false x y e = let z : _≡_ {A = ℕ} 0 1 = cc in absurd (omega arith)
+    go false b x y e = let z : _≡_ {A = ℕ} 0 1 = cc in absurd (omega arith)

@@ -1,12 +1,13 @@
 -- What a record's body says, from document 01, "The access log": "judged as a part by itself". Assumes nothing.
 use Prim.Native.Nat.{ℕ, _+_, _*_}
 use mathlib.Core.List.{List}
-use mathlib.Core.Bool.{_&&_}
+use mathlib.Core.Bool.{true, false, _&&_}
 use lib.ListN.{length, getD}
 use lib.Dec.{leb, eqb}
 use Rattle.ground.specs.Pick.{pick}
 use Rattle.ground.specs.Num.{isSound}
 use Rattle.records.specs.declared.judge.Record.{Record}
+use Rattle.records.specs.declared.judge.Clocks.{Clocks}
 use Rattle.records.specs.declared.judge.Record.the-variants.{Write, Read, Clock, Pcm, Wrong}
 
 -- "two bytes, big-endian": those at i and i + 1
@@ -41,3 +42,16 @@ judgeOf s =
     (pick (eqb (getD s 0 0) 3) (clockOf s)
     (pick (eqb (getD s 0 0) 4) (pcmOf s)
     Wrong))))
+
+-- ---- clock records by themselves, for who looks for one
+
+abbrev pub noClocks : Clocks
+noClocks = record { right = false; double = false; divider = 0; count = 0 }
+
+-- what a clock record says; no other record is one
+abbrev pub clocksOf : Record → Clocks
+clocksOf (Write addr value) = noClocks
+clocksOf (Read addr) = noClocks
+clocksOf (Clock double divider count) = record { right = true; double = double; divider = divider; count = count }
+clocksOf Pcm = noClocks
+clocksOf Wrong = noClocks

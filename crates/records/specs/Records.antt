@@ -3,14 +3,15 @@ use Prim.Native.Nat.{ℕ, zero, suc, _+_, _-_, _≤_}
 use mathlib.Core.Path.{_≡_, refl}
 use mathlib.Core.List.{List, [], _∷_}
 use lib.ListN.{length, take, drop}
-use lib.Dec.{ltb, leb}
+use lib.Dec.{ltb, leb, eqb}
 use native.Mathlib.Omega.{arith}
 use borrow.Author.Tests.{le-leb}
 use Rattle.ground.specs.Pick.{pick}
 use Rattle.records.specs.declared.judge.Record.{Record}
+use Rattle.records.specs.declared.judge.Clocks.{Clocks}
 use Rattle.records.specs.declared.cut.Cut.{Cut}
 use Rattle.records.specs.declared.cut.Cut.the-variants.{End, Short, Body}
-use Rattle.records.specs.Judge.{word, judgeOf}
+use Rattle.records.specs.Judge.{word, judgeOf, noClocks, clocksOf}
 
 -- "two length bytes, big-endian, and the body of that many bytes"; else the log ends here, or "a record cut short"
 unfoldable pub cutAt : List ℕ → ℕ → Cut
@@ -22,6 +23,10 @@ cutAt s at =
 -- the body at a place: n bytes after the two of its length
 abbrev pub bodyAt : List ℕ → ℕ → ℕ → List ℕ
 bodyAt s at n = take n (drop (at + 2) s)
+
+-- the clock record at a place: a body of "03 speed .. (5)" bytes, which lies within the log
+unfoldable pub clocksAt : List ℕ → ℕ → Clocks
+clocksAt s at = pick (leb (at + 7) (length s)) (pick (eqb (word s at) 5) (clocksOf (judgeOf (bodyAt s at 5))) noClocks) noClocks
 
 -- the records in order, each with the place of its first length byte; the row ends where the log does, or at a record cut short
 pub data Parsed : Type 0 where

@@ -2,7 +2,8 @@
 ghost use mathlib.Core.Path.{_≡_};
 ghost use Prim.Native.Nat.{_+_, _<_};
 ghost use lib.ListN.{length};
-ghost use Rattle.records.specs.Judge.{word, writeOf, readOf, clockOf, pcmOf, judgeOf};
+ghost use Rattle.records.specs.Judge.{word, writeOf, readOf, clockOf, pcmOf, judgeOf, noClocks, clocksOf};
+ghost use Rattle.records.specs.Records.{clocksAt};
 
 // What a record's body says.
 pub enum Record {
@@ -81,6 +82,62 @@ fn judge_clock(body: &[u8]) -> Record
         }
     }
     Record::Wrong
+}
+
+// A clock record, or none.
+pub struct Clocks {
+    pub right: bool,
+    pub double: bool,
+    pub divider: u8,
+    pub count: u16,
+}
+
+fn no_clocks() -> Clocks
+    ensures { λ r. ⌜ r ≡ noClocks ⌝ }
+{
+    Clocks {
+        right: false,
+        double: false,
+        divider: 0,
+        count: 0,
+    }
+}
+
+// What a body of five bytes says, where it is a clock record's.
+fn clocks_in(body: &[u8]) -> Clocks
+    requires { ⌜ length (now body) ≡ 5 ⌝ }
+    ensures { λ r. ⌜ r ≡ clocksOf (judgeOf (now (body .entry))) ⌝ }
+{
+    let speed = body[1];
+    let count = word_at(body, 3);
+    if (body[0] == 3) & ((speed <= 1) & ((1 <= count) & (count <= 16384))) {
+        return Clocks {
+            right: true,
+            double: speed == 1,
+            divider: body[2],
+            count,
+        };
+    }
+    no_clocks()
+}
+
+// The clock record at a place, if one stands there. It takes seven bytes, so that who finds one knows where the next record begins without its length.
+pub fn clocks_at(log: &[u8], at: usize) -> Clocks
+    ensures { λ r. ⌜ r ≡ clocksAt (now (log .entry)) at ⌝ }
+{
+    let n = log.len();
+    if n < 7 {
+        return no_clocks();
+    }
+    if n - 7 < at {
+        return no_clocks();
+    }
+    if word_at(log, at) == 5 {
+        let from = at + 2;
+        let to = at + 7;
+        return clocks_in(&log[from..to]);
+    }
+    no_clocks()
 }
 
 // Kind 04: both PCM reads.

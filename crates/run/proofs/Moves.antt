@@ -1,10 +1,12 @@
 -- Many clocks of what moves are each part's own, and keep its ranges. Assumes nothing.
 use mathlib.Core.Path.{_≡_, refl, sym, ap, _∙_}
-use mathlib.Core.Bool.{true, false}
-use Prim.Native.Nat.{ℕ, zero, suc, _-_, _≤_}
+use mathlib.Core.Bool.{Bool, true, false, _&&_}
+use lib.Dec.{leb}
+use borrow.Author.Tests.{leb-true}
+use Prim.Native.Nat.{ℕ, zero, suc, _+_, _-_, _*_, _≤_}
 use native.Mathlib.Omega.{arith}
 use Rattle.ground.specs.Iterate.{iterate}
-use Rattle.ground.proofs.Cases.{pick-true, pick-false, pick-holds}
+use Rattle.ground.proofs.Cases.{pick-true, pick-false, pick-holds, and-left, and-right}
 use Rattle.ground.proofs.Timers.{iterate-holds}
 use Rattle.pulse.specs.Tone.{toneClocked}
 use Rattle.pulse.proofs.Tones as tones
@@ -15,7 +17,7 @@ use Rattle.noise.specs.Hiss.{hissClocked}
 use Rattle.noise.proofs.Hisses as hisses
 use Rattle.apu.specs.Held.{Held, FloatsHeld}
 use Rattle.apu.specs.declared.Apu.{Apu}
-use Rattle.run.specs.Moving.{StillHeld, MovingHeld, ConvertersHeld, stillOf, movingOf, convertersOf, moveOf}
+use Rattle.run.specs.Moving.{StillHeld, MovingHeld, ConvertersHeld, stillOf, movingOf, convertersOf, slowOf, moveOf}
 use Rattle.run.specs.declared.moving.Moving.{Moving}
 use Rattle.run.specs.declared.moving.Still.{Still}
 
@@ -56,6 +58,30 @@ module _ (s : Still) where
 
   pub moves-held : StillHeld s → (n : ℕ) (m : Moving) → MovingHeld m → MovingHeld (iterate n (moveOf s) m)
   moves-held h n m k = iterate-holds MovingHeld (moveOf s) (move-held h) n m k
+
+-- ---- clocks no more than a period has, two for each of the wave's
+pub record Near (s : Still) (n : ℕ) : Type 0 where
+  pub some : 1 ≤ n
+  pub pulse1 : n ≤ 2047 - s .pulse1 .frequency + 1
+  pub pulse2 : n ≤ 2047 - s .pulse2 .frequency + 1
+  pub wave : n * 2 ≤ 2047 - s .wave .frequency + 1
+
+pub near-of : (s : Still) (n : ℕ) (slow : Bool) → slow ≡ slowOf s → (slow && (leb 1 n && leb n 24)) ≡ true → Near s n
+near-of s n slow e h =
+    let tests : (slowOf s && (leb 1 n && leb n 24)) ≡ true = rw (← e) h in
+    let timers = and-left (slowOf s) (leb 1 n && leb n 24) tests in
+    let clocks = and-right (slowOf s) (leb 1 n && leb n 24) tests in
+    let others = and-right (leb (s .pulse1 .frequency) 2024) _ timers in
+    let few : n ≤ 24 = leb-true n 24 (and-right (leb 1 n) _ clocks) in
+    let first : s .pulse1 .frequency ≤ 2024 = leb-true _ _ (and-left (leb (s .pulse1 .frequency) 2024) _ timers) in
+    let second : s .pulse2 .frequency ≤ 2024 = leb-true _ _ (and-left (leb (s .pulse2 .frequency) 2024) _ others) in
+    let third : s .wave .frequency ≤ 2000 = leb-true _ _ (and-right (leb (s .pulse2 .frequency) 2024) _ others) in
+    record {
+      some = leb-true 1 n (and-left (leb 1 n) _ clocks);
+      pulse1 = omega arith;
+      pulse2 = omega arith;
+      wave = omega arith;
+    }
 
 -- the ranges of the unit's own
 pub still-held : (a : Apu) → Held a → StillHeld (stillOf a)

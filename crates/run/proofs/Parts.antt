@@ -1,11 +1,12 @@
--- A working clock on a unit whose parts were put back moves those parts, and nothing else. Assumes nothing.
+-- A run by what it moves alone: a working clock on a unit whose parts were put back moves those parts, and nothing else. Assumes nothing.
 use mathlib.Core.Path.{_≡_, refl, ap, _∙_}
 use mathlib.Core.Bool.{Bool, true, false}
 use mathlib.Core.List.{List, [], _++_, append-nil}
 use Prim.Native.Nat.{ℕ, _-_}
 use lib.Ieee.{Float}
 use Rattle.ground.specs.Pick.{pick}
-use Rattle.ground.proofs.Timers.{pick-ap}
+use Rattle.ground.specs.Iterate.{iterate}
+use Rattle.ground.proofs.Timers.{pick-ap, iterate-part}
 use Rattle.clocks.specs.Counter.{everyAt, tickBy}
 use Rattle.frame.specs.declared.converter.Converter.{Converter}
 use Rattle.pulse.specs.Tone.{toneClocked}
@@ -34,7 +35,36 @@ use Rattle.run.specs.Working.{passing, working, workingBytes, Take, work
 use Rattle.run.specs.Moving.{stillOf, moveOf, pulseWith, waveWith, noiseWith, putBack}
 use Rattle.run.specs.Shot.{shotOf}
 use Rattle.run.specs.declared.moving.Moving.{Moving}
+use Rattle.run.specs.declared.moving.Still.{Still}
 use Rattle.run.specs.declared.moving.Converters.{Converters}
+
+-- ---- a run by itself: what moves and the bytes that it has made, and with the sample counter a point of it
+abbrev pub Rest : Type 0
+Rest = Moving × Converters × List ℕ
+
+abbrev pub Point : Type 0
+Point = Float × Rest
+
+abbrev made : Float → Bool
+made c = tickBy (everyAt 44100) c .made
+
+abbrev next : Float → Float
+next c = tickBy (everyAt 44100) c .counter
+
+module _ (s : Still) where
+  abbrev pub restClock : Rest → Rest
+  restClock a = (moveOf s (a .0), a .1, a .2)
+
+  abbrev pub restFrame : Rest → Rest
+  restFrame a = let f = shotOf s (a .0) (a .1) in (a .0, f .converters, a .2 ++ mixItem (f .mix))
+
+  -- a working clock: the counter, the frame where one is made, the channels
+  abbrev pub pointClock : Point → Point
+  pointClock p = (next (p .0), restClock (pick (made (p .0)) (restFrame (p .1)) (p .1)))
+
+-- a point's unit, with the bytes
+abbrev pub takeAt : Apu → Point → Take
+takeAt u p = record { apu = putBack u (p .1 .0) (p .1 .1) (p .0); bytes = p .1 .2 }
 
 -- ---- the channels
 pulse-part : (g : PulseGroup) (d : Converter) (t : Tone) → pulse.clocked (pulseWith g d t) ≡ pulseWith g d (toneClocked (g .channel .«first_trigger») (2047 - g .channel .frequency) t)
@@ -74,30 +104,13 @@ module _ (u : Apu) where
   unfolding pushed pulse.sounded wave.sounded noise.sounded shotOf
   push-part m k c = refl
 
-  -- ---- a working clock: the unit and its bytes as a sample counter and a rest
-  abbrev pub Rest : Type 0
-  Rest = Moving × Converters × List ℕ
-
-  abbrev pub takeAt : Float → Rest → Take
-  takeAt c a = record { apu = putBack u (a .0) (a .1) c; bytes = a .2 }
-
-  abbrev pub restClock : Rest → Rest
-  restClock a = (moveOf (stillOf u) (a .0), a .1, a .2)
-
-  abbrev pub restFrame : Rest → Rest
-  restFrame a = let s = shotOf (stillOf u) (a .0) (a .1) in (a .0, s .converters, a .2 ++ mixItem (s .mix))
-
-  abbrev made : Float → Bool
-  made c = tickBy (everyAt 44100) c .made
-
-  abbrev next : Float → Float
-  next c = tickBy (everyAt 44100) c .counter
-
+  -- ---- a working clock on a unit whose parts were put back moves those parts
   abbrev one : Float → Rest → Framed → Bool → Take
   one c a f b =
       record { apu = passing (withClocks (pick b (f .apu) (putBack u (a .0) (a .1) c)) (next c) (u .«clocks_counter»)); bytes = a .2 ++ pick b (mixItem (f .mix)) [] }
 
-  by-frame : (c : Float) (a : Rest) (b : Bool) → one c a (pushed (putBack u (a .0) (a .1) c)) b ≡ takeAt (next c) (restClock (pick b (restFrame a) a))
+  by-frame : (c : Float) (a : Rest) (b : Bool)
+      → one c a (pushed (putBack u (a .0) (a .1) c)) b ≡ takeAt u (next c, restClock (stillOf u) (pick b (restFrame (stillOf u) a) a))
   unfolding pick
   by-frame c a true =
       let s = shotOf (stillOf u) (a .0) (a .1) in
@@ -105,8 +118,12 @@ module _ (u : Apu) where
       ∙ ap (λ (x : Apu). record { apu = x; bytes = a .2 ++ mixItem (s .mix) }) (move-part (a .0) (s .converters) (next c))
   by-frame c a false =
       ap (λ (x : Apu). record { apu = x; bytes = a .2 ++ [] }) (move-part (a .0) (a .1) (next c))
-      ∙ ap (λ (l : List ℕ). takeAt (next c) (moveOf (stillOf u) (a .0), a .1, l)) (append-nil (a .2))
+      ∙ ap (λ (l : List ℕ). takeAt u (next c, (moveOf (stillOf u) (a .0), a .1, l))) (append-nil (a .2))
 
-  pub works : (c : Float) (a : Rest) → workingOn (takeAt c a) ≡ takeAt (next c) (restClock (pick (made c) (restFrame a) a))
+  works : (p : Point) → workingOn (takeAt u p) ≡ takeAt u (pointClock (stillOf u) p)
   unfolding workingOn working workingBytes
-  works c a = by-frame c a (made c)
+  works p = by-frame (p .0) (p .1) (made (p .0))
+
+  -- and so do many
+  pub ran-at : (n : ℕ) (p : Point) → iterate n workingOn (takeAt u p) ≡ takeAt u (iterate n (pointClock (stillOf u)) p)
+  ran-at n p = iterate-part (takeAt u) workingOn (pointClock (stillOf u)) works n p

@@ -1,7 +1,10 @@
 -- What the working clocks of the four channels move, and what they leave as it is. Assumes nothing.
-use Prim.Native.Nat.{_-_}
+use Prim.Native.Nat.{ℕ, _-_}
+use mathlib.Core.Bool.{Bool, _&&_}
+use lib.Dec.{leb}
 use lib.Ieee.{Float}
 use Rattle.ground.specs.Pick.{pick}
+use Rattle.ground.specs.Iterate.{iterate}
 use Rattle.pulse.specs.Pulse as pulse
 use Rattle.pulse.specs.Tone.{ToneHeld, toneOf, withTone, toneClocked}
 use Rattle.wave.specs.Wave as wave
@@ -19,6 +22,7 @@ use Rattle.frame.specs.Held as float
 use Rattle.apu.specs.With.{withGroups, withClocks}
 use Rattle.apu.specs.declared.Apu.{Apu}
 use Rattle.run.specs.declared.moving.Moving.{Moving}
+use Rattle.run.specs.declared.moving.Tones.{Tones}
 use Rattle.run.specs.declared.moving.Still.{Still}
 use Rattle.run.specs.declared.moving.Converters.{Converters}
 
@@ -67,6 +71,19 @@ pub record ConvertersHeld (k : Converters) : Type 0 where
   pub pulse2 : float.Held (k .pulse2)
   pub wave : float.Held (k .wave)
   pub noise : float.Held (k .noise)
+
+-- n working clocks of the pulses and the wave, with power on
+abbrev pub tonesAfter : Still → ℕ → Moving → Tones
+tonesAfter s n m =
+    record {
+      pulse1 = iterate n (toneClocked (s .pulse1 .«first_trigger») (2047 - s .pulse1 .frequency)) (m .pulse1);
+      pulse2 = iterate n (toneClocked (s .pulse2 .«first_trigger») (2047 - s .pulse2 .frequency)) (m .pulse2);
+      wave = iterate n (swingClocked (2047 - s .wave .frequency)) (m .wave);
+    }
+
+-- (for the code alone: whether their timers step once at most in 24 of them)
+abbrev pub slowOf : Still → Bool
+slowOf s = leb (s .pulse1 .frequency) 2024 && (leb (s .pulse2 .frequency) 2024 && leb (s .wave .frequency) 2000)
 
 -- a working clock of what moves: "With power off, stop", else "Clock pulse 1, pulse 2, wave, noise"
 unfoldable pub moveOf : Still → Moving → Moving

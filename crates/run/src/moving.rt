@@ -6,7 +6,7 @@ ghost use Rattle.apu.specs.Held.{Held};
 ghost use Rattle.pulse.specs.Tone.{ToneHeld};
 ghost use Rattle.wave.specs.Swing.{SwingHeld};
 ghost use Rattle.noise.specs.Hiss.{HissHeld};
-ghost use Rattle.run.specs.Moving.{StillHeld, MovingHeld, stillOf, movingOf, convertersOf, moveOf, pulseWith, waveWith, noiseWith, putBack};
+ghost use Rattle.run.specs.Moving.{StillHeld, MovingHeld, stillOf, movingOf, convertersOf, slowOf, tonesAfter, moveOf, pulseWith, waveWith, noiseWith, putBack};
 use apu::Apu;
 use frame::converter::Converter;
 use groups::noise_group::NoiseGroup;
@@ -36,6 +36,13 @@ pub struct Moving {
     pub pulse2: Tone,
     pub wave: Swing,
     pub noise: Hiss,
+}
+
+// What moves with each clock, without the noise.
+struct Tones {
+    pulse1: Tone,
+    pulse2: Tone,
+    wave: Swing,
 }
 
 // What moves with each frame.
@@ -95,6 +102,47 @@ pub fn converters_of(unit: Apu) -> Converters
     }
 }
 
+// Whether no timer of the pulses and the wave comes round twice in 24 clocks, as far as two frames lie apart: periods of 24, and of 48 half-clocks.
+fn slow(still: Still) -> bool
+    ensures { λ r. ⌜ r ≡ slowOf still ⌝ }
+{
+    let pulse1 = still.pulse1;
+    let pulse2 = still.pulse2;
+    let wave = still.wave;
+    (pulse1.frequency <= 2024) & ((pulse2.frequency <= 2024) & (wave.frequency <= 2000))
+}
+
+// The pulses and the wave after so many working clocks with power on. From frame to frame they mostly go without a jump: that is worth a tenth of a frame,
+// or a fifth with all timers slow.
+fn advance_tones(moving: Moving, still: Still, n: u32) -> Tones
+    requires { ⌜ MovingHeld moving ⌝ }
+    requires { ⌜ StillHeld still ⌝ }
+    requires { ⌜ n ≤ 32768 ⌝ }
+    ensures { λ r. ⌜ r ≡ tonesAfter still n moving ⌝ }
+{
+    let pulse1 = moving.pulse1;
+    let pulse2 = moving.pulse2;
+    let wave = moving.wave;
+    let first = still.pulse1;
+    let second = still.pulse2;
+    let third = still.wave;
+    let reload1 = (2047 - first.frequency) as u32;
+    let reload2 = (2047 - second.frequency) as u32;
+    let reload3 = (2047 - third.frequency) as u32;
+    if slow(still) & ((1 <= n) & (n <= 24)) {
+        return Tones {
+            pulse1: pulse1.advance_near(first.first_trigger, reload1, n),
+            pulse2: pulse2.advance_near(second.first_trigger, reload2, n),
+            wave: wave.advance_near(reload3, n),
+        };
+    }
+    Tones {
+        pulse1: pulse1.advance(first.first_trigger, reload1, n),
+        pulse2: pulse2.advance(second.first_trigger, reload2, n),
+        wave: wave.advance(reload3, n),
+    }
+}
+
 impl Moving {
     // So many working clocks at once; with power off the channels stand still.
     pub fn advance(self, still: Still, n: u32) -> Moving
@@ -104,19 +152,18 @@ impl Moving {
         ensures { λ r. ⌜ r ≡ iterate n (moveOf still) self ⌝ }
     {
         if still.power {
-            let pulse1 = self.pulse1;
-            let pulse2 = self.pulse2;
-            let wave = self.wave;
+            let tones = advance_tones(self, still, n);
             let noise = self.noise;
-            let first = still.pulse1;
-            let second = still.pulse2;
-            let third = still.wave;
             let fourth = still.noise;
+            let hiss = noise.advance(fourth.step_mode_7_bits, fourth.get_frequency() as u32, n);
+            let pulse1 = tones.pulse1;
+            let pulse2 = tones.pulse2;
+            let wave = tones.wave;
             return Moving {
-                pulse1: pulse1.advance(first.first_trigger, (2047 - first.frequency) as u32, n),
-                pulse2: pulse2.advance(second.first_trigger, (2047 - second.frequency) as u32, n),
-                wave: wave.advance((2047 - third.frequency) as u32, n),
-                noise: noise.advance(fourth.step_mode_7_bits, fourth.get_frequency() as u32, n),
+                pulse1,
+                pulse2,
+                wave,
+                noise: hiss,
             };
         }
         self
