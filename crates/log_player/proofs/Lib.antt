@@ -1,5 +1,8 @@
 -- The laws of playing. Assumes nothing.
 pub mod Recorded  -- one record
+pub mod Groups  -- a write to one group
 pub mod Frames  -- how many frames and bytes there are
+pub mod Coming  -- what is to come of a log
+pub mod Reckoning  -- clock records in numbers
 pub mod Walking  -- a row of records
 pub mod Answering  -- a whole log

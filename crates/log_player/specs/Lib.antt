@@ -2,3 +2,5 @@
 pub mod Playing  -- what each record does to the unit, and the bytes that it makes
 pub mod Frames  -- the frames that they make
 pub mod Logs  -- a whole log: its answer and its output
+pub mod Bodies  -- the record at a place
+pub mod Coming  -- what is still to come of a log, for who reckons ahead
