@@ -54,19 +54,23 @@ module _ (w : GroupWrite) (a : Apu) where
 
 -- in the place of the group, by the position that comes next
 module _ (w : GroupWrite) (a : Apu) {n : ℕ} (next : n ≡ nextOf (a .«sequencer_position»)) where
-  pub pulse1-put : {g : PulseGroup} → w .group ≡ 1 → g ≡ pulse.written (a .pulse1) (w .offset) true (eqb (n % 2) 0) (w .value) → groupWritten w a ≡ withPulse1 a g
+  pub pulse1-put : {g : PulseGroup} → w .group ≡ 1 → g ≡ pulse.written (a .pulse1) (w .offset) true (eqb (n % 2) 0) (w .value)
+      → groupWritten w a ≡ withPulse1 a g
   unfolding groupWritten pick
   pulse1-put e i = rw (e, i, next)
 
-  pub pulse2-put : {g : PulseGroup} → w .group ≡ 2 → g ≡ pulse.written (a .pulse2) (w .offset) true (eqb (n % 2) 0) (w .value) → groupWritten w a ≡ withPulse2 a g
+  pub pulse2-put : {g : PulseGroup} → w .group ≡ 2 → g ≡ pulse.written (a .pulse2) (w .offset) true (eqb (n % 2) 0) (w .value)
+      → groupWritten w a ≡ withPulse2 a g
   unfolding groupWritten pick
   pulse2-put e i = rw (e, i, next)
 
-  pub wave-put : {g : WaveGroup} → w .group ≡ 3 → g ≡ wave.written (a .wave) (w .offset) (a .«is_dmg») (eqb (n % 2) 0) (w .value) → groupWritten w a ≡ withWave a g
+  pub wave-put : {g : WaveGroup} → w .group ≡ 3 → g ≡ wave.written (a .wave) (w .offset) (a .«is_dmg») (eqb (n % 2) 0) (w .value)
+      → groupWritten w a ≡ withWave a g
   unfolding groupWritten pick
   wave-put e i = rw (e, i, next)
 
-  pub noise-put : {g : NoiseGroup} → w .group ≡ 4 → g ≡ noise.written (a .noise) (w .offset) (eqb (n % 2) 0) (w .value) → groupWritten w a ≡ withNoise a g
+  pub noise-put : {g : NoiseGroup} → w .group ≡ 4 → g ≡ noise.written (a .noise) (w .offset) (eqb (n % 2) 0) (w .value)
+      → groupWritten w a ≡ withNoise a g
   unfolding groupWritten pick
   noise-put e i = rw (e, i, next)
 
@@ -123,19 +127,20 @@ module _ (a : Apu) (addr value : ℕ) (on : a .power ≡ true) (low : 0xFF11 ≤
       sound h ∙ rw (not-first, le-ltb at 5 far, le-ltb at 10 farther, le-ltb at 15 farthest, lt-ltb at 20 near, same)
 
 -- ---- THE LAW: where a record is a write to a group, its unit is the unit with that group written
-abbrev Wrote : Apu → ℕ → ℕ → GroupWrite → Type 0
-Wrote a addr value w = (w .group ≡ 0 → ⊥) → (w .value ≡ value) × (writeOf a addr value .apu ≡ groupWritten w a)
-
-wrote : (a : Apu) (addr value : ℕ) → a .power ≡ true → Wrote a addr value (groupAt addr value)
+wrote : (a : Apu) (addr value : ℕ) → a .power ≡ true → let w = groupAt addr value in
+    (w .group ≡ 0 → ⊥) → (w .value ≡ value) × (writeOf a addr value .apu ≡ groupWritten w a)
 unfolding groupAt
 wrote a addr value on =
-    pick-holds (Wrote a addr value) (ltb addr 0xFF11) _ _ (λ _ n. absurd (n refl))
+    pick-holds P (ltb addr 0xFF11) _ _ (λ _ n. absurd (n refl))
     (λ e. let low = ltb-false addr 0xFF11 e in
-    pick-holds (Wrote a addr value) (ltb addr 0xFF15) _ _ (λ f _. (refl, to-pulse1 a addr value on low (ltb-true addr 0xFF15 f)))
-    (λ f. pick-holds (Wrote a addr value) (ltb addr 0xFF1A) _ _ (λ g _. (refl, to-pulse2 a addr value on low (ltb-false addr 0xFF15 f) (ltb-true addr 0xFF1A g)))
-    (λ g. pick-holds (Wrote a addr value) (ltb addr 0xFF1F) _ _ (λ k _. (refl, to-wave a addr value on low (ltb-false addr 0xFF1A g) (ltb-true addr 0xFF1F k)))
-    (λ k. pick-holds (Wrote a addr value) (ltb addr 0xFF24) _ _ (λ m _. (refl, to-noise a addr value on low (ltb-false addr 0xFF1F k) (ltb-true addr 0xFF24 m)))
+    pick-holds P (ltb addr 0xFF15) _ _ (λ f _. (refl, to-pulse1 a addr value on low (ltb-true addr 0xFF15 f)))
+    (λ f. pick-holds P (ltb addr 0xFF1A) _ _ (λ g _. (refl, to-pulse2 a addr value on low (ltb-false addr 0xFF15 f) (ltb-true addr 0xFF1A g)))
+    (λ g. pick-holds P (ltb addr 0xFF1F) _ _ (λ k _. (refl, to-wave a addr value on low (ltb-false addr 0xFF1A g) (ltb-true addr 0xFF1F k)))
+    (λ k. pick-holds P (ltb addr 0xFF24) _ _ (λ m _. (refl, to-noise a addr value on low (ltb-false addr 0xFF1F k) (ltb-true addr 0xFF24 m)))
     (λ _ n. absurd (n refl))))))
+  where
+    P : GroupWrite → Type 0
+    P w = (w .group ≡ 0 → ⊥) → (w .value ≡ value) × (writeOf a addr value .apu ≡ groupWritten w a)
 
 pub record Grouped (x : Record) (w : GroupWrite) (a : Apu) : Type 0 where
   pub quiet : bytesOf x a ≡ []

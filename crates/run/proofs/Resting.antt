@@ -181,9 +181,10 @@ module _ {r : Task} {s : State} (g : Resting r s) where
 
   last-is : takeAt (r .unit) (front (stillOf (r .unit)) (g .bytes) (ahead (r .unit) s [])) ≡ ranOf (r .count) (r .unit)
   last-is =
+      let still = stillOf (r .unit) in
+      let waited = iterate (s .waiting) (moveOf still) (movingOf (r .unit)) in
       ap (takeAt (r .unit))
-      (sym
-      (points-front (stillOf (r .unit)) (s .left) (g .bytes) (units (s .units), (iterate (s .waiting) (moveOf (stillOf (r .unit))) (movingOf (r .unit)), convertersOf (r .unit), [])))
+      (sym (points-front still (s .left) (g .bytes) (units (s .units), (waited, convertersOf (r .unit), [])))
       ∙ ap (ahead (r .unit) s) (append-nil (g .bytes))
       ∙ g .same)
       ∙ sym (run-is r (g .floats))

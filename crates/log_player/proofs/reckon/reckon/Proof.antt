@@ -15,7 +15,8 @@ use Rattle.clock_player.specs.Owed.{OneBit, metOf}
 use Rattle.clock_player.specs.declared.calls.Met.{Met}
 use Rattle.log_player.specs.Coming.{ahead}
 use Rattle.log_player.specs.declared.reckon.Reckoned.{Reckoned}
-use Rattle.log_player.proofs.Reckoning.{Reckoning, reckoning, not-true, calls-left, calls-few, Turn, turn-of, turn-count, turn-fits, turn-few, turn-fell, Past, past-all, past-some}
+use Rattle.log_player.proofs.Reckoning.{Reckoning, reckoning, not-true, calls-left, calls-few}
+use Rattle.log_player.proofs.Reckoning.{Turn, turn-of, turn-count, turn-fits, turn-few, turn-fell, Past, past-all, past-some}
 use Rattle.log_player.proofs.Reckoning.{reckons-on, reckoning-on, reckons-fell}
 use Rattle.log_player.proofs.reckon.reckon.Statement.{statement}
 use Rattle.log_player.proofs.reckon.reckon.Tie as tie

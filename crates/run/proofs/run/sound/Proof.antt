@@ -32,7 +32,8 @@ Inv-loop ahead count waiting out₀ start still settings ram moving₀ converter
     (record { out = out; moving = moving; converters = converters; units = units; due = due; left = left; at = at; pending = pending })
 
 abbrev μ-loop : tie.MeasureT-loop
-μ-loop ahead count waiting out₀ start still settings ram moving₀ converters₀ units₀ due₀ left₀ at₀ pending₀ out moving converters units due left at pending = left
+μ-loop ahead count waiting out₀ start still settings ram moving₀ converters₀ units₀ due₀ left₀ at₀ pending₀ out moving converters units due left at pending =
+    left
 
 moving-of-requires : tie.Need-moving-of-requires Inv-loop μ-loop
 moving-of-requires c κs =
