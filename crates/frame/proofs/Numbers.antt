@@ -13,7 +13,7 @@ use lib.Ieee.Exact.{HasValue}
 use lib.Ieee.Back.{round-whole}
 use lib.Ieee.Scale.{grid}
 use Rattle.ground.proofs.Rounded.{grid-mono, grid-le, plus-sum, add-is, mul-is, div-is}
-use Rattle.frame.specs.Converter.{f0, stepped}
+use Rattle.frame.specs.Converter.{f0}
 use Rattle.frame.specs.Mixing.{f1, f5, f8, sideOf, sidesOf, voiced, sum4, mixed}
 use Rattle.frame.specs.Held.{one, fifth, Held, Within, Number, Numbers}
 use Rattle.frame.specs.declared.converter.Converter.{Converter}

@@ -1,19 +1,17 @@
 -- What is to come of a log, taken by rows of records and by calls of the clock record at the place. Assumes nothing.
-use Prim.Native.Nat.{ℕ, zero, suc, _+_, _-_, _*_, _≤_, _<_}
-use mathlib.Core.Path.{_≡_, refl, sym, _∙_, ap, ap₂}
-use mathlib.Core.Bool.{Bool, true, false}
+use Prim.Native.Nat.{ℕ, zero, suc, _+_, _-_, _≤_, _<_}
+use mathlib.Core.Path.{_≡_, refl, sym, _∙_, ap}
+use mathlib.Core.Bool.{true, false}
 use mathlib.Core.List.{List, [], _∷_, _++_, append-nil, append-assoc}
 use native.Mathlib.Nat.{sub-zero}
 use native.Mathlib.Omega.{arith}
-use lib.ListN.{length}
 use Rattle.ground.specs.Pick.{pick}
 use Rattle.ground.specs.Iterate.{iterate}
-use Rattle.apu.specs.declared.Apu.{Apu}
 use Rattle.records.specs.declared.judge.Record.{Record}
 use Rattle.records.specs.declared.judge.Record.the-variants.{Clock}
 use Rattle.records.specs.declared.judge.Clocks.{Clocks}
 use Rattle.records.specs.Records.{Parsed, clocksAt, recordsFrom, unrolled}
-use Rattle.records.proofs.Framing.{Stands, clocks-stand}
+use Rattle.records.proofs.Framing.{clocks-stand}
 use Rattle.run.specs.Working.{Take, workingOn, ranOf}
 use Rattle.clock_player.specs.Calls.{standing}
 use Rattle.clock_player.proofs.Rows.{rows, rows-none}

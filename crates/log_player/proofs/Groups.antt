@@ -1,13 +1,13 @@
 -- A write to one group's registers, with power on: it is the write of the whole unit, and makes no bytes. Assumes nothing.
-use Prim.Native.Nat.{ℕ, _+_, _-_, _%_, _≤_, _<_}
-use mathlib.Core.Path.{_≡_, refl, sym, _∙_, ap}
+use Prim.Native.Nat.{ℕ, _-_, _%_, _≤_, _<_}
+use mathlib.Core.Path.{_≡_, refl, _∙_, ap}
 use mathlib.Core.Bool.{Bool, true, false}
-use mathlib.Core.List.{List, []}
+use mathlib.Core.List.{[]}
 use native.Mathlib.Omega.{arith}
 use borrow.Author.Tests.{lt-ltb, le-ltb, le-leb, ne-eqb, ltb-true, ltb-false}
 use lib.Dec.{eqb, ltb}
 use Rattle.ground.specs.Pick.{pick}
-use Rattle.ground.proofs.Cases.{pick-holds, pick-false}
+use Rattle.ground.proofs.Cases.{pick-holds}
 use Rattle.clocks.specs.Position.{nextOf, nextEven}
 use Rattle.groups.specs.declared.pulse_group.PulseGroup.{PulseGroup}
 use Rattle.groups.specs.declared.wave_group.WaveGroup.{WaveGroup}
@@ -22,7 +22,7 @@ use Rattle.apu.proofs.Ranges.{write-held}
 use Rattle.apu.proofs.Floats.{write-floats}
 use Rattle.records.specs.declared.judge.Record.{Record}
 use Rattle.records.specs.declared.judge.Record.the-variants.{Write, Read, Clock, Pcm, Wrong}
-use Rattle.clock_player.proofs.Marks.{Ready}
+use Rattle.run.proofs.Ranges.{Ready}
 use Rattle.log_player.specs.declared.body.GroupWrite.{GroupWrite}
 use Rattle.log_player.specs.Playing.{bytesOf, unitAfter}
 use Rattle.log_player.specs.Bodies.{noWrite, groupAt, groupWriteOf}

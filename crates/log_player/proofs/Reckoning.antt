@@ -1,5 +1,5 @@
 -- A turn of `reckon`: calls of the clock record at the place, which see one divider bit, in numbers alone. Assumes nothing.
-use Prim.Native.Nat.{ℕ, _+_, _-_, _*_, _≤_, _<_}
+use Prim.Native.Nat.{ℕ, _+_, _-_, _≤_, _<_}
 use mathlib.Core.Path.{_≡_, refl, sym, _∙_, ap}
 use mathlib.Core.Bool.{Bool, true, false, not}
 use mathlib.Core.List.{List}
@@ -17,11 +17,11 @@ use Rattle.run.specs.Working.{Take, workingOn, ranOf}
 use Rattle.clock_player.specs.Calls.{standing, dividerAt}
 use Rattle.clock_player.specs.Owed.{OneBit, metOf, marked}
 use Rattle.clock_player.specs.declared.calls.Met.{Met}
-use Rattle.clock_player.proofs.Marks.{markedTake, ran-marked, ran-own}
+use Rattle.clock_player.proofs.Marks.{ran-marked, ran-own}
 use Rattle.clock_player.proofs.Stretches.{fallenTake, met-half, met-few, fell-some}
 use Rattle.clock_player.proofs.Turns.{none, Meets, calls-on, calls-fell}
 use Rattle.log_player.specs.declared.reckon.Reckoned.{Reckoned}
-use Rattle.log_player.specs.Coming.{recordsOn, callsOn, comingAt, Between, ahead, steppedOn, Reckons}
+use Rattle.log_player.specs.Coming.{recordsOn, callsOn, comingAt, Between, steppedOn, Reckons}
 use Rattle.log_player.proofs.Coming.{coming-calls, Passed, passed-some, passed-all, stepped-none}
 
 -- ---- the loop: nothing has fallen yet, and what is owed is little

@@ -1,6 +1,6 @@
 -- What a run hands back is what its point has, and put back into the unit it is the unit after the run. Assumes nothing.
-use mathlib.Core.Path.{_≡_, refl, sym, ap, ap₂, _∙_}
-use mathlib.Core.List.{List, []}
+use mathlib.Core.Path.{_≡_, refl, sym, ap}
+use mathlib.Core.List.{[]}
 use Prim.Native.Nat.{ℕ, _+_}
 use lib.Ieee.{Float}
 use lib.ListN.{length}
@@ -9,14 +9,14 @@ use Rattle.clocks.specs.Distance.{unitsIn}
 use Rattle.clocks.proofs.Distances.{units, kept-is}
 use Rattle.apu.specs.Held.{FloatsHeld}
 use Rattle.apu.specs.declared.Apu.{Apu}
-use Rattle.run.specs.Working.{Take, workingOn, ranOf}
+use Rattle.run.specs.Working.{ranOf}
 use Rattle.run.specs.Moving.{stillOf, movingOf, convertersOf, moveOf, putBack}
-use Rattle.run.specs.Ran.{partsOf, behind}
-use Rattle.run.specs.declared.run.Ran.{Ran}
+use Rattle.run.specs.Parts.{partsOf, behind}
+use Rattle.run.specs.declared.run.Parts.{Parts}
 use Rattle.run.proofs.Parts.{Point, pointClock, takeAt, ran-at}
 
 -- a point's parts
-abbrev pub pointParts : Point → ℕ → Ran
+abbrev pub pointParts : Point → ℕ → Parts
 pointParts p start = record { moving = p .1 .0; converters = p .1 .1; counter = p .0; at = start + length (p .1 .2) }
 
 -- a unit with its own parts put back

@@ -18,13 +18,12 @@ use Rattle.apu.specs.Held.{Held, FloatsHeld}
 use Rattle.apu.specs.declared.Apu.{Apu}
 use Rattle.run.specs.Working.{Take, ranOf}
 use Rattle.run.specs.Moving.{stillOf, movingOf, convertersOf, moveOf}
-use Rattle.run.specs.Shot.{shotOf}
-use Rattle.run.specs.Ran.{silentOf, behind, partsOf}
-use Rattle.run.specs.declared.run.Ran.{Ran}
+use Rattle.run.specs.Parts.{silentOf, behind, partsOf}
+use Rattle.run.specs.declared.run.Parts.{Parts}
 use Rattle.run.specs.declared.shot.Shot.{Shot}
 use Rattle.run.specs.declared.moving.Moving.{Moving}
 use Rattle.run.proofs.Parts.{Point, pointClock, takeAt}
-use Rattle.run.proofs.Rans.{pointParts, pointFrom, behind-ran, behind-none}
+use Rattle.run.proofs.Rans.{pointFrom, behind-ran, behind-none}
 use Rattle.run.proofs.Frames.{shot-silent}
 use Rattle.run.proofs.Turns.{grows, front, points-front, turn}
 use Rattle.run.proofs.Running.{from}
@@ -203,7 +202,7 @@ module _ {r : Task} {s : State} (g : Resting r s) where
       fits : (at start n m f a b : ℕ) → at ≡ start + n → n + m ≡ f → start + f ≤ a → b ≡ a → at + m ≤ b
       fits at start n m f a b e h j k = omega arith
 
-  pub resting-last : {q : Ran} {out : List ℕ} → q ≡ partsOf last (s .at) → out ≡ sets (s .out) (s .at) (last .bytes)
+  pub resting-last : {q : Parts} {out : List ℕ} → q ≡ partsOf last (s .at) → out ≡ sets (s .out) (s .at) (last .bytes)
       → (q ≡ partsOf (ranOf (r .count) (r .unit)) (r .start)) × (out ≡ sets (r .out) (r .start) (ranOf (r .count) (r .unit) .bytes))
   resting-last {q} {out} qe oe =
       let whole-run : Take = ranOf (r .count) (r .unit) in

@@ -5,7 +5,6 @@ use Prim.Native.Nat.{ℕ, _+_, _-_}
 use mathlib.Core.Bool.{true}
 use mathlib.Core.List.{List}
 use mathlib.Core.Path.{_≡_, sym, _∙_}
-use denote.Ref.{now}
 use lib.ListN.{length}
 use native.Mathlib.Nat.{add-sub-cancel-left}
 use Rattle.records.specs.Records.{clocksAt}

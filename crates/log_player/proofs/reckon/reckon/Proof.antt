@@ -1,20 +1,11 @@
 -- At every turn owing what was reckoned so far, at its place, is owing what was owed at the start; with each turn less of the log is to come. Assumes nothing.
 use borrow.Author.Needs.{needs}
 use native.Mathlib.Omega.{arith}
-use Prim.Native.Nat.{ℕ, _+_, _-_, _≤_, _<_}
-use mathlib.Core.Bool.{Bool}
-use mathlib.Core.List.{List}
+use Prim.Native.Nat.{_-_}
 use mathlib.Core.Logic.{⊎-elim}
-use mathlib.Core.Path.{_≡_, refl, sym, ap, _∙_}
+use mathlib.Core.Path.{refl}
 use denote.Ref.{now}
-use Rattle.records.specs.Records.{clocksAt}
-use Rattle.records.specs.declared.judge.Clocks.{Clocks}
-use Rattle.apu_clock.specs.Sequencer.{bitOf}
-use Rattle.clock_player.specs.Calls.{standing, dividerAt}
-use Rattle.clock_player.specs.Owed.{OneBit, metOf}
-use Rattle.clock_player.specs.declared.calls.Met.{Met}
 use Rattle.log_player.specs.Coming.{ahead}
-use Rattle.log_player.specs.declared.reckon.Reckoned.{Reckoned}
 use Rattle.log_player.proofs.Reckoning.{Reckoning, reckoning, not-true, calls-left, calls-few}
 use Rattle.log_player.proofs.Reckoning.{Turn, turn-of, turn-count, turn-fits, turn-few, turn-fell, Past, past-all, past-some}
 use Rattle.log_player.proofs.Reckoning.{reckons-on, reckoning-on, reckons-fell}

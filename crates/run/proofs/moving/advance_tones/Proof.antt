@@ -1,8 +1,7 @@
 -- Each part goes its clocks at once by itself, near or not. Assumes nothing.
 use borrow.Author.Needs.{needs}
 use native.Mathlib.Omega.{arith}
-use mathlib.Core.Path.{_∙_}
-use Rattle.run.proofs.Moves.{Near, near-of}
+use Rattle.run.proofs.Moves.{near-of}
 use Rattle.run.proofs.moving.advance_tones.Statement.{statement}
 use Rattle.run.proofs.moving.advance_tones.Tie as tie
 

@@ -1,5 +1,4 @@
 -- What is left to do, with all the channels' clocks still to come, comes to the whole; with each frame less is left. Assumes nothing.
-use borrow.Author.Needs.{needs}
 use native.Mathlib.Omega.{arith}
 use mathlib.Core.Path.{_∙_}
 use Rattle.clocks.proofs.Distances.{kept-below, after-below}
@@ -79,23 +78,23 @@ loop-again c =
     let loop = c .before .before .before .before .before .before .before .loop in
     resting-on (loop .inv) (loop-test .taken) (put-silence .ensures) (past-frame .ensures) (until2 .ensures)
 
-sound-requires : tie.Need-sound-requires Inv-loop μ-loop
-sound-requires c κs =
+sound-from-requires : tie.Need-sound-from-requires Inv-loop μ-loop
+sound-from-requires c κs =
     let loop = c .before .before .loop in
     let inv = loop .inv in
     (inv .held, (inv .floats, (inv .below, (inv .few, last-room inv))))
 
 same-length : tie.Need-same-length Inv-loop μ-loop
 same-length c =
-    let sound = c .before .before .sound in
+    let sound-from = c .before .before .sound-from in
     let loop = c .before .before .before .before .before .loop in
-    sound .kept .1 .1 .1 .1 .0 ∙ out-long (loop .inv)
+    sound-from .kept .1 .1 .1 .1 .0 ∙ out-long (loop .inv)
 
 returns : tie.Need-returns Inv-loop μ-loop
 returns c =
-    let sound = c .before .before .sound in
+    let sound-from = c .before .before .sound-from in
     let loop = c .before .before .before .before .before .loop in
-    resting-last (loop .inv) (sound .ensures .0) (sound .ensures .1)
+    resting-last (loop .inv) (sound-from .ensures .0) (sound-from .ensures .1)
 
 pub rest-spec : {M : Type 1} → statement M
 rest-spec =
@@ -113,6 +112,6 @@ rest-spec =
     until-requires-2
     loop-less
     loop-again
-    sound-requires
+    sound-from-requires
     same-length
     returns)

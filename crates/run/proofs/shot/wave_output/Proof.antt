@@ -2,7 +2,6 @@
 use borrow.Author.Needs.{needs}
 use native.Mathlib.Nat.{div-le-self, le-trans}
 use Prim.Native.Nat.{_^_}
-use mathlib.Core.Path.{refl}
 use Rattle.run.proofs.shot.wave_output.Statement.{statement}
 use Rattle.run.proofs.shot.wave_output.Tie as tie
 

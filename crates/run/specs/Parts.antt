@@ -11,10 +11,10 @@ use Rattle.noise.specs.Noise as noise
 use Rattle.apu.specs.declared.Apu.{Apu}
 use Rattle.run.specs.Working.{Take}
 use Rattle.run.specs.Moving.{stillOf, movingOf, convertersOf, moveOf, putBack}
-use Rattle.run.specs.declared.run.Ran.{Ran}
+use Rattle.run.specs.declared.run.Parts.{Parts}
 
 -- what was moved, and the place after the bytes (put back into the unit it is the unit after the run: `put-ran` of proofs/Rans.antt)
-abbrev pub partsOf : Take → ℕ → Ran
+abbrev pub partsOf : Take → ℕ → Parts
 partsOf t start =
     record { moving = movingOf (t .apu); converters = convertersOf (t .apu); counter = t .apu .«sample_counter»; at = start + length (t .bytes) }
 
