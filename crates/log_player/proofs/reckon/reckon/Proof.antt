@@ -51,7 +51,7 @@ meet-requires c κs =
     let if1 = c .before .before .before .before .before .if1 in
     let clocks-at = c .before .before .before .before .before .before .before .clocks-at in
     let loop = c .before .before .before .before .before .before .before .before .loop in
-    (loop .inv .far .halves, omega (arith, same-bit .ensures .0 .1, calls-few (loop .inv) (clocks-at .ensures) (if1 .left)))
+    (loop .inv .far .halves, omega (arith, same-bit .ensures .1 .0 .1, calls-few (loop .inv) (clocks-at .ensures) (if1 .left)))
 
 add-r : tie.Need-add-r Inv-loop μ-loop
 add-r c =
@@ -65,7 +65,7 @@ add-r c =
     let back10 = c .before .before .before .before .before .before .before .before .before .before in
     let start = back10 .before .before in
     let turn : Turn (now (start .args .log)) (start .args .power) (loop .r) (clocks-at .result) (same-bit .result) (meet .result) =
-    turn-of (clocks-at .ensures) (if1 .left) (same-bit .ensures) (divider-at .ensures) (sequencer-bit .ensures) (meet .ensures) in
+    turn-of (clocks-at .ensures) (if1 .left) (same-bit .ensures .1) (divider-at .ensures) (sequencer-bit .ensures) (meet .ensures) in
     omega (arith, turn .within, turn-count turn, calls-left (loop .inv) (clocks-at .ensures) (if1 .left))
 
 add-r-2 : tie.Need-add-r-2 Inv-loop μ-loop
@@ -80,7 +80,7 @@ add-r-2 c =
     let loop = back10 .before .before .before .before .loop in
     let start = back10 .before .before .before .before .before .before in
     let turn : Turn (now (start .args .log)) (start .args .power) (loop .r) (clocks-at .result) (same-bit .result) (meet .result) =
-    turn-of (clocks-at .ensures) (if1 .left) (same-bit .ensures) (divider-at .ensures) (sequencer-bit .ensures) (meet .ensures) in
+    turn-of (clocks-at .ensures) (if1 .left) (same-bit .ensures .1) (divider-at .ensures) (sequencer-bit .ensures) (meet .ensures) in
     omega (arith, turn-fits turn, start .good)
 
 add-r-3 : tie.Need-add-r-3 Inv-loop μ-loop
@@ -96,7 +96,7 @@ add-r-3 c =
     let loop = back10 .before .before .before .before .before .loop in
     let start = back10 .before .before .before .before .before .before .before in
     let turn : Turn (now (start .args .log)) (start .args .power) (loop .r) (clocks-at .result) (same-bit .result) (meet .result) =
-    turn-of (clocks-at .ensures) (if1 .left) (same-bit .ensures) (divider-at .ensures) (sequencer-bit .ensures) (meet .ensures) in
+    turn-of (clocks-at .ensures) (if1 .left) (same-bit .ensures .1) (divider-at .ensures) (sequencer-bit .ensures) (meet .ensures) in
     let past : Past turn (if2 .r) = ⊎-elim (λ w. past-all turn (w .0 .taken) (w .2)) (λ w. past-some turn (w .0 .left) (w .1)) (if2 .came) in
     omega (arith, past .owed, loop .inv .little)
 
@@ -113,7 +113,7 @@ sub-r c =
     let loop = back10 .before .before .before .before .before .before .loop in
     let start = back10 .before .before .before .before .before .before .before .before in
     let turn : Turn (now (start .args .log)) (start .args .power) (loop .r) (clocks-at .result) (same-bit .result) (meet .result) =
-    turn-of (clocks-at .ensures) (if1 .left) (same-bit .ensures) (divider-at .ensures) (sequencer-bit .ensures) (meet .ensures) in
+    turn-of (clocks-at .ensures) (if1 .left) (same-bit .ensures .1) (divider-at .ensures) (sequencer-bit .ensures) (meet .ensures) in
     turn-fell turn (if3 .taken)
 
 returns-2 : tie.Need-returns-2 Inv-loop μ-loop
@@ -130,7 +130,7 @@ returns-2 c =
     let loop = back10 .before .before .before .before .before .before .loop in
     let start = back10 .before .before .before .before .before .before .before .before in
     let turn : Turn (now (start .args .log)) (start .args .power) (loop .r) (clocks-at .result) (same-bit .result) (meet .result) =
-    turn-of (clocks-at .ensures) (if1 .left) (same-bit .ensures) (divider-at .ensures) (sequencer-bit .ensures) (meet .ensures) in
+    turn-of (clocks-at .ensures) (if1 .left) (same-bit .ensures .1) (divider-at .ensures) (sequencer-bit .ensures) (meet .ensures) in
     let past : Past turn (if2 .r) = ⊎-elim (λ w. past-all turn (w .0 .taken) (w .2)) (λ w. past-some turn (w .0 .left) (w .1)) (if2 .came) in
     (reckons-fell (loop .inv) turn past (if3 .taken), λ z. absurd (omega arith))
 
@@ -147,7 +147,7 @@ add-r-4 c =
     let loop = back10 .before .before .before .before .before .before .loop in
     let start = back10 .before .before .before .before .before .before .before .before in
     let turn : Turn (now (start .args .log)) (start .args .power) (loop .r) (clocks-at .result) (same-bit .result) (meet .result) =
-    turn-of (clocks-at .ensures) (if1 .left) (same-bit .ensures) (divider-at .ensures) (sequencer-bit .ensures) (meet .ensures) in
+    turn-of (clocks-at .ensures) (if1 .left) (same-bit .ensures .1) (divider-at .ensures) (sequencer-bit .ensures) (meet .ensures) in
     let past : Past turn (if2 .r) = ⊎-elim (λ w. past-all turn (w .0 .taken) (w .2)) (λ w. past-some turn (w .0 .left) (w .1)) (if2 .came) in
     omega (arith, past .owed, loop .inv .little, turn-few turn (loop .inv .far .halves))
 
@@ -166,7 +166,7 @@ returns-3 c =
     let loop = back10 .before .before .before .before .before .before .before .before .loop in
     let start = back10 .before .before .before .before .before .before .before .before .before .before in
     let turn : Turn (now (start .args .log)) (start .args .power) (loop .r) (clocks-at .result) (same-bit .result) (meet .result) =
-    turn-of (clocks-at .ensures) (if1 .left) (same-bit .ensures) (divider-at .ensures) (sequencer-bit .ensures) (meet .ensures) in
+    turn-of (clocks-at .ensures) (if1 .left) (same-bit .ensures .1) (divider-at .ensures) (sequencer-bit .ensures) (meet .ensures) in
     let past : Past turn (if2 .r) = ⊎-elim (λ w. past-all turn (w .0 .taken) (w .2)) (λ w. past-some turn (w .0 .left) (w .1)) (if2 .came) in
     (reckons-on (loop .inv) turn past (if3 .left), λ z. absurd (omega (arith, if4 .taken)))
 
@@ -183,7 +183,7 @@ loop-less c =
     let loop = back10 .before .before .before .before .before .before .before .before .loop in
     let start = back10 .before .before .before .before .before .before .before .before .before .before in
     let turn : Turn (now (start .args .log)) (start .args .power) (loop .r) (clocks-at .result) (same-bit .result) (meet .result) =
-    turn-of (clocks-at .ensures) (if1 .left) (same-bit .ensures) (divider-at .ensures) (sequencer-bit .ensures) (meet .ensures) in
+    turn-of (clocks-at .ensures) (if1 .left) (same-bit .ensures .1) (divider-at .ensures) (sequencer-bit .ensures) (meet .ensures) in
     let past : Past turn (if2 .r) = ⊎-elim (λ w. past-all turn (w .0 .taken) (w .2)) (λ w. past-some turn (w .0 .left) (w .1)) (if2 .came) in
     omega (arith, past .passed .less)
 
@@ -202,7 +202,7 @@ loop-again c =
     let loop = back10 .before .before .before .before .before .before .before .before .loop in
     let start = back10 .before .before .before .before .before .before .before .before .before .before in
     let turn : Turn (now (start .args .log)) (start .args .power) (loop .r) (clocks-at .result) (same-bit .result) (meet .result) =
-    turn-of (clocks-at .ensures) (if1 .left) (same-bit .ensures) (divider-at .ensures) (sequencer-bit .ensures) (meet .ensures) in
+    turn-of (clocks-at .ensures) (if1 .left) (same-bit .ensures .1) (divider-at .ensures) (sequencer-bit .ensures) (meet .ensures) in
     let past : Past turn (if2 .r) = ⊎-elim (λ w. past-all turn (w .0 .taken) (w .2)) (λ w. past-some turn (w .0 .left) (w .1)) (if2 .came) in
     reckoning-on (loop .inv) turn past (if3 .left) (omega (arith, if4 .left))
 
