@@ -1,4 +1,5 @@
--- The record at a place: where its body ends, and the write to one group's registers that it may be, from document 01, "Registers and power". Assumes nothing.
+-- The record at a place: where its body ends, and the write to one group's registers that it may be. For the code of `play_list` and its proof alone: what a
+-- record does is said in Playing.antt. Assumes nothing.
 use Prim.Native.Nat.{ℕ, _+_, _-_}
 use mathlib.Core.Bool.{true, false}
 use lib.Dec.{ltb}

@@ -43,7 +43,7 @@ judgeOf s =
     (pick (eqb (getD s 0 0) 4) (pcmOf s)
     Wrong))))
 
--- ---- clock records by themselves, for who looks for one
+-- ---- clock records by themselves: for the players alone
 
 abbrev pub noClocks : Clocks
 noClocks = record { right = false; double = false; divider = 0; count = 0 }

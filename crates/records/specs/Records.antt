@@ -24,7 +24,7 @@ cutAt s at =
 abbrev pub bodyAt : List ℕ → ℕ → ℕ → List ℕ
 bodyAt s at n = take n (drop (at + 2) s)
 
--- the clock record at a place: a body of "03 speed .. (5)" bytes, which lies within the log
+-- (for the players alone) the clock record at a place: a body of "03 speed .. (5)" bytes, which lies within the log
 unfoldable pub clocksAt : List ℕ → ℕ → Clocks
 clocksAt s at = pick (leb (at + 7) (length s)) (pick (eqb (word s at) 5) (clocksOf (judgeOf (bodyAt s at 5))) noClocks) noClocks
 

@@ -1,4 +1,4 @@
--- What a run hands back, and the units that it starts from. Assumes nothing.
+-- What a run hands back, and the units that it starts from. For the code and its proof alone: what working clocks do is said in Working.antt. Assumes nothing.
 use Prim.Native.Nat.{ℕ, _+_}
 use mathlib.Core.Bool.{Bool, _&&_}
 use lib.Ieee.{binary64}
