@@ -74,8 +74,11 @@ pub fn compare(log: &[u8], edges: bool, space: &mut Vec<u8>) -> Result<Sums, Str
         expect("answer", ours, Ok(theirs))?;
         expect("untouched past the output", stayed, true)?;
         if space[..needed] != answer.bytes[..] {
-            let (at, (ours, theirs)) = Items(&space[..needed]).zip(Items(&answer.bytes)).enumerate().find(|(_, (ours, theirs))| ours != theirs).expect("an item differs");
-            return Err(format!("item {at}:\n  {ours} here\n  {theirs} by the original"));
+            let pairs = Items(&space[..needed]).zip(Items(&answer.bytes));
+            return Err(match pairs.clone().enumerate().find(|(_, (ours, theirs))| ours != theirs) {
+                Some((at, (ours, theirs))) => format!("item {at}:\n  {ours} here\n  {theirs} by the original"),
+                None => format!("only {} items here", pairs.count()),
+            });
         }
     }
     if edges && needed > 0 {

@@ -371,6 +371,40 @@ fn residue(log: &mut Log) {
     }
 }
 
+/// All four channels muted for long while their timers run, then heard again: only then does it show how far they came.
+fn silences(log: &mut Log) {
+    log.power_on();
+    log.wave_table();
+    for channel in 0..4 {
+        log.sound(channel);
+    }
+    for _ in 0..4 + log.random.below(12) {
+        for addr in [0xFF12, 0xFF17, 0xFF21] {
+            log.write(addr, 0x08);
+        }
+        log.write(0xFF1A, 0);
+        if log.random.one_in(2) {
+            let shape = log.random.byte();
+            log.write(0xFF22, shape);
+        }
+        for _ in 0..1 + log.random.below(3) {
+            let (double, divider, most) = (log.random.one_in(3), log.random.byte(), log.random.of(&[30, 700, 16384]));
+            let count = log.random.count(most);
+            log.clock(double, divider, count);
+        }
+        for addr in [0xFF12, 0xFF17, 0xFF21] {
+            let volume = log.random.byte() | 0x10;
+            log.write(addr, volume);
+        }
+        if log.random.one_in(2) {
+            log.sound(2);
+        }
+        let count = log.random.count(200);
+        log.run(count);
+        log.look();
+    }
+}
+
 /// A good log of another family, cut, changed, grown or made too long.
 fn damaged(random: &mut Random, index: u64) -> Vec<u8> {
     let family = random.below(8) as usize;
@@ -398,8 +432,8 @@ fn damaged(random: &mut Random, index: u64) -> Vec<u8> {
 }
 
 /// A family of random logs, and how many of ten thousand are its own.
-pub const FAMILIES: [(&str, u64); 11] = [
-    ("any access", 1800),
+pub const FAMILIES: [(&str, u64); 12] = [
+    ("any access", 1500),
     ("triggers", 1500),
     ("sequencer edges", 1500),
     ("sweeps", 1000),
@@ -410,6 +444,7 @@ pub const FAMILIES: [(&str, u64); 11] = [
     ("long runs", 70),
     ("faint residue", 12),
     ("damaged", 650),
+    ("silences", 300),
 ];
 
 /// The log of a family by its number.
@@ -430,7 +465,8 @@ pub fn make(family: usize, seed: u64, index: u64) -> Vec<u8> {
         6 => power(&mut log),
         7 => speeds(&mut log),
         8 => long(&mut log),
-        _ => residue(&mut log),
+        9 => residue(&mut log),
+        _ => silences(&mut log),
     }
     bytes(start, &log.records)
 }

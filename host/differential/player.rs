@@ -78,6 +78,7 @@ impl fmt::Display for Item {
 }
 
 /// The items of an output, in order. It ends at the first byte that begins none.
+#[derive(Clone)]
 pub struct Items<'a>(pub &'a [u8]);
 
 impl Iterator for Items<'_> {

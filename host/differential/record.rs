@@ -54,8 +54,9 @@ pub fn record(file: &Path, folder: &Path, seed: u64) -> std::io::Result<()> {
     }
     for (number, (family, _)) in generate::FAMILIES.iter().enumerate() {
         name(&mut out, family)?;
-        let (many, clocks) = if number == 8 || number == 9 { (2, 900_000) } else { (18, 8_000) };
-        let logs = (0..).map(|index| generate::make(number, seed, index)).filter(|log| small(log, clocks) || number == 8 || number == 9);
+        let long = matches!(*family, "long runs" | "faint residue" | "silences");
+        let (many, clocks) = if long { (2, 900_000) } else { (18, 8_000) };
+        let logs = (0..).map(|index| generate::make(number, seed, index)).filter(|log| long || small(log, clocks));
         for log in logs.take(many) {
             put(&mut out, &shorten(log, clocks))?;
         }
