@@ -146,7 +146,7 @@ fn median(times: &mut [f64]) -> f64 {
     times[times.len() / 2]
 }
 
-// Both sides by turns; prints the line and gives the ratio.
+// Both sides by turns; prints the line and gives the ratio: the median of the rounds' own, since a shared machine changes its speed from round to round.
 fn measure(family: &Family, rounds: usize, out: &mut [u8]) -> f64 {
     let log = log::bytes(1, &family.records);
     let (mut calls, mut working) = (0.0, 0.0);
@@ -166,10 +166,11 @@ fn measure(family: &Family, rounds: usize, out: &mut [u8]) -> f64 {
         ours.push(began.elapsed().as_secs_f64());
         assert_eq!(played.frames, frames as u64, "{}: the two made different numbers of frames", family.name);
     }
-    let (slow, fast) = (median(&mut theirs), median(&mut ours));
+    let mut ratios: Vec<f64> = theirs.iter().zip(&ours).map(|(theirs, ours)| theirs / ours).collect();
+    let (slow, fast, ratio) = (median(&mut theirs), median(&mut ours), median(&mut ratios));
     let rate = |times: &[f64], middle: f64| format!("{:.1} ({:.2})", calls / middle / 1e6, times[times.len() - 1] / times[0]);
-    println!("{:36} {:>16} {:>16} {:>10.0} {:>7.2}", family.name, rate(&theirs, slow), rate(&ours, fast), working / fast / REAL_TIME, slow / fast);
-    slow / fast
+    println!("{:36} {:>16} {:>16} {:>10.0} {:>7.2}", family.name, rate(&theirs, slow), rate(&ours, fast), working / fast / REAL_TIME, ratio);
+    ratio
 }
 
 // The peak of this process's memory so far, in kB.
@@ -209,7 +210,7 @@ fn main() {
     let words: Vec<String> = std::env::args().collect();
     let rounds: usize = words.get(1).map_or(9, |word| word.parse().expect("bench [ROUNDS]")).max(7);
     let mut out = vec![0u8; 16 << 20];
-    println!("{rounds} rounds, each side by turns; medians of millions of clock calls a second, in brackets slowest over fastest round");
+    println!("{rounds} rounds, each side by turns; medians of millions of clock calls a second, in brackets slowest over fastest round; the median of the rounds' ratios");
     println!("{:36} {:>16} {:>16} {:>10} {:>7}", "", "the crate", "this port", "real time", "ratio");
     let first: Vec<f64> = families().iter().map(|family| measure(family, rounds, &mut out)).collect();
     println!("where a record's own cost shows, against the crate's bare calls:");
