@@ -200,6 +200,11 @@ fn options() -> Options {
                 record::record(file.as_ref(), folder.as_ref(), options.seed).unwrap_or_else(|error| usage(&format!("{file}: {error}")));
                 std::process::exit(0)
             }
+            "--sample" => {
+                let folder = value();
+                record::sample(folder.as_ref(), options.seed, 10).unwrap_or_else(|error| usage(&format!("{folder}: {error}")));
+                std::process::exit(0)
+            }
             _ => usage(&format!("{word} is no option")),
         }
     }

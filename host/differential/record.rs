@@ -72,6 +72,17 @@ pub fn record(file: &Path, folder: &Path, seed: u64) -> std::io::Result<()> {
     out.flush()
 }
 
+/// The first logs of every family, so many of each and none longer than a program prints in a moment, as files of a folder.
+pub fn sample(folder: &Path, seed: u64, many: u64) -> std::io::Result<()> {
+    for (number, (family, _)) in generate::FAMILIES.iter().enumerate() {
+        for index in 0..many {
+            let log = shorten(generate::make(number, seed, index), 36_000);
+            std::fs::write(folder.join(format!("{}_{index}.log", family.replace(' ', "_"))), log)?;
+        }
+    }
+    Ok(())
+}
+
 /// A log without the records past so many clocks or 1,500 frames.
 fn shorten(log: Vec<u8>, clocks: u64) -> Vec<u8> {
     let Ok((start, mut records)) = crate::log::parse(&log) else { return log };
