@@ -54,6 +54,7 @@ int main(void) {
         show(cases + at, length, room, out);
         at += length;
     }
-    fprintf(stderr, edges(out) ? "edges: as they should be\n" : "edges: WRONG\n");
-    return 0;
+    int right = edges(out);
+    fprintf(stderr, right ? "edges: as they should be\n" : "edges: WRONG\n");
+    return !right;
 }

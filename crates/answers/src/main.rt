@@ -1,12 +1,12 @@
 // Plays small logs one by one, each into an output of a given length, and prints what the player answers: the refusal and the number returned, and for a
 // log that is played its frames, clock calls and records and the bytes that it made; then CHANGED if a byte past those was touched.
 // Standard input has a row of cases: two bytes for the output's length, two for the log's, the log.
-use access_log::answer::Played;
-use access_log::answer::is_done;
-use access_log::answer::refusal;
-use access_log::answer::returned;
-use log_player::entry::play_log;
-use records::judge::word_at;
+use log_player::log::play_log;
+use log_records::judge::word_at;
+use log_scan::answer::Played;
+use log_scan::answer::is_done;
+use log_scan::answer::refusal;
+use log_scan::answer::returned;
 
 // What the output holds before a log is played.
 const FILL: u8 = 0xEE;

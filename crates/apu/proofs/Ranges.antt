@@ -6,17 +6,17 @@ use native.Mathlib.Omega.{arith}
 use lib.Dec.{lit≤}
 use lib.IntN.{ℤ}
 use Rattle.ground.proofs.Cases.{both-ways}
-use Rattle.parts.proofs.Ranges.{envelope-written-held, length-written-held, length-fresh-held}
-use Rattle.pulse.specs.Pulse as channel
-use Rattle.pulse.proofs.Ranges.{pulse-fresh-held, pulse-envelope-held, pulse-duty-held, pulse-on-held}
-use Rattle.groups.specs.PulseGroups as pulse
-use Rattle.groups.specs.WaveGroups as wave
-use Rattle.groups.specs.NoiseGroups as noise
-use Rattle.groups.specs.declared.pulse_group.PulseGroup.{PulseGroup}
-use Rattle.groups.specs.declared.wave_group.WaveGroup.{WaveGroup}
-use Rattle.groups.specs.declared.noise_group.NoiseGroup.{NoiseGroup}
-use Rattle.groups.proofs.Ranges.{pulse-group-fresh-held, wave-group-fresh-held, noise-group-fresh-held}
-use Rattle.groups.proofs.Ranges as group
+use Rattle.channel_parts.proofs.Ranges.{envelope-written-held, length-written-held, length-fresh-held}
+use Rattle.channel_pulse.specs.Pulse as channel
+use Rattle.channel_pulse.proofs.Ranges.{pulse-fresh-held, pulse-envelope-held, pulse-duty-held, pulse-on-held}
+use Rattle.channel_groups.specs.PulseGroups as pulse
+use Rattle.channel_groups.specs.WaveGroups as wave
+use Rattle.channel_groups.specs.NoiseGroups as noise
+use Rattle.channel_groups.specs.declared.pulse_group.PulseGroup.{PulseGroup}
+use Rattle.channel_groups.specs.declared.wave_group.WaveGroup.{WaveGroup}
+use Rattle.channel_groups.specs.declared.noise_group.NoiseGroup.{NoiseGroup}
+use Rattle.channel_groups.proofs.Ranges.{pulse-group-fresh-held, wave-group-fresh-held, noise-group-fresh-held}
+use Rattle.channel_groups.proofs.Ranges as group
 use Rattle.clocks.specs.Position.{PositionHeld}
 use Rattle.apu.specs.Held.{Held}
 use Rattle.apu.specs.With.{withPulse1, withPulse2, withWave, withNoise, withGroups, withControl, withSelection, withPower, withClocks, withBit, withPosition}

@@ -2,10 +2,10 @@
 use mathlib.Core.Path.{_≡_, refl, _∙_}
 use Prim.Native.Nat.{ℕ, zero, suc, _-_}
 use Rattle.ground.proofs.Cases.{both-ways}
-use Rattle.groups.specs.PulseGroups as pulse
-use Rattle.groups.specs.WaveGroups as wave
-use Rattle.groups.specs.NoiseGroups as noise
-use Rattle.groups.proofs.Untouched.{pulse-untouched, wave-untouched, noise-untouched}
+use Rattle.channel_groups.specs.PulseGroups as pulse
+use Rattle.channel_groups.specs.WaveGroups as wave
+use Rattle.channel_groups.specs.NoiseGroups as noise
+use Rattle.channel_groups.proofs.Untouched.{pulse-untouched, wave-untouched, noise-untouched}
 use Rattle.apu.specs.Registers.{soundWritten, gatedWritten, ramWritten, zeroed, silenced, poweredOff, restarted, refilled, poweredOn, powerWritten, writtenAt, writeOf}
 use Rattle.apu.specs.declared.Apu.{Apu}
 use Rattle.apu.specs.declared.registers.Written.{Written}

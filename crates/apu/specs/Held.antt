@@ -2,9 +2,9 @@
 use Prim.Native.Nat.{_≤_}
 use Rattle.clocks.specs.Counter.{Kept}
 use Rattle.clocks.specs.Calls.{K}
-use Rattle.groups.specs.PulseGroups as pulse
-use Rattle.groups.specs.WaveGroups as wave
-use Rattle.groups.specs.NoiseGroups as noise
+use Rattle.channel_groups.specs.PulseGroups as pulse
+use Rattle.channel_groups.specs.WaveGroups as wave
+use Rattle.channel_groups.specs.NoiseGroups as noise
 use Rattle.clocks.specs.Position.{PositionHeld}
 use Rattle.apu.specs.declared.Apu.{Apu}
 

@@ -5,13 +5,13 @@ use lib.Dec.{eqb, ltb, leb}
 use lib.IntN.{pos, negsuc}
 use Rattle.ground.specs.Pick.{pick}
 use Rattle.ground.specs.Num.{isSound}
-use Rattle.pulse.specs.Sweep as sweep
-use Rattle.pulse.specs.Pulse as pulseChannel
-use Rattle.wave.specs.Wave as waveChannel
-use Rattle.noise.specs.Noise as noiseChannel
-use Rattle.groups.specs.PulseGroups as pulse
-use Rattle.groups.specs.WaveGroups as wave
-use Rattle.groups.specs.NoiseGroups as noise
+use Rattle.channel_pulse.specs.Sweep as sweep
+use Rattle.channel_pulse.specs.Pulse as pulseChannel
+use Rattle.channel_wave.specs.Wave as waveChannel
+use Rattle.channel_noise.specs.Noise as noiseChannel
+use Rattle.channel_groups.specs.PulseGroups as pulse
+use Rattle.channel_groups.specs.WaveGroups as wave
+use Rattle.channel_groups.specs.NoiseGroups as noise
 use Rattle.clocks.specs.Position.{nextEven}
 use Rattle.apu.specs.With.{withPulse1, withPulse2, withWave, withNoise, withGroups, withControl, withSelection, withPower, withPosition}
 use Rattle.apu.specs.declared.Apu.{Apu}

@@ -2,15 +2,15 @@
 use mathlib.Core.Bool.{Bool, true, false}
 use lib.IntN.{pos}
 use lib.Ieee.{binary64, ofBits}
-use Rattle.parts.specs.Envelope as envelope
-use Rattle.parts.specs.Length as length
-use Rattle.pulse.specs.Pulse.{dutyWritten}
-use Rattle.pulse.specs.With.{withOn, withEnvelope}
-use Rattle.groups.specs.declared.pulse_group.PulseGroup.{PulseGroup}
-use Rattle.groups.specs.declared.noise_group.NoiseGroup.{NoiseGroup}
-use Rattle.groups.specs.PulseGroups as pulse
-use Rattle.groups.specs.WaveGroups as wave
-use Rattle.groups.specs.NoiseGroups as noise
+use Rattle.channel_parts.specs.Envelope as envelope
+use Rattle.channel_parts.specs.Length as length
+use Rattle.channel_pulse.specs.Pulse.{dutyWritten}
+use Rattle.channel_pulse.specs.With.{withOn, withEnvelope}
+use Rattle.channel_groups.specs.declared.pulse_group.PulseGroup.{PulseGroup}
+use Rattle.channel_groups.specs.declared.noise_group.NoiseGroup.{NoiseGroup}
+use Rattle.channel_groups.specs.PulseGroups as pulse
+use Rattle.channel_groups.specs.WaveGroups as wave
+use Rattle.channel_groups.specs.NoiseGroups as noise
 use Rattle.apu.specs.declared.Apu.{Apu}
 
 -- "Start: everything 0 or off", on DMG or not

@@ -3,9 +3,9 @@ use Prim.Native.Nat.{ℕ}
 use mathlib.Core.Bool.{Bool}
 use lib.IntN.{ℤ}
 use lib.Ieee.{Float}
-use Rattle.groups.specs.declared.pulse_group.PulseGroup.{PulseGroup}
-use Rattle.groups.specs.declared.wave_group.WaveGroup.{WaveGroup}
-use Rattle.groups.specs.declared.noise_group.NoiseGroup.{NoiseGroup}
+use Rattle.channel_groups.specs.declared.pulse_group.PulseGroup.{PulseGroup}
+use Rattle.channel_groups.specs.declared.wave_group.WaveGroup.{WaveGroup}
+use Rattle.channel_groups.specs.declared.noise_group.NoiseGroup.{NoiseGroup}
 use Rattle.apu.specs.declared.Apu.{Apu}
 
 -- another pulse 1

@@ -3,9 +3,9 @@ pub mod registers; // registers.rt: reads, writes and power
 
 ghost use mathlib.Core.Path.{_≡_};
 ghost use Rattle.apu.specs.Start.{fresh, skipped};
-use groups::noise_group::NoiseGroup;
-use groups::pulse_group::PulseGroup;
-use groups::wave_group::WaveGroup;
+use channel_groups::noise_group::NoiseGroup;
+use channel_groups::pulse_group::PulseGroup;
+use channel_groups::wave_group::WaveGroup;
 
 pub struct Apu {
     pub pulse1: PulseGroup,

@@ -8,9 +8,9 @@ use Rattle.clocks.specs.Counter.{everyAt, tickBy}
 use Rattle.clocks.specs.Calls.{halfClocksOf}
 use Rattle.frame.specs.Mixing.{mixed}
 use Rattle.frame.specs.Buffers.{Buffers, roomFor, framed}
-use Rattle.groups.specs.PulseGroups as pulse
-use Rattle.groups.specs.WaveGroups as wave
-use Rattle.groups.specs.NoiseGroups as noise
+use Rattle.channel_groups.specs.PulseGroups as pulse
+use Rattle.channel_groups.specs.WaveGroups as wave
+use Rattle.channel_groups.specs.NoiseGroups as noise
 use Rattle.apu.specs.With.{withGroups, withClocks}
 use Rattle.apu_clock.specs.Sequencer.{finished}
 use Rattle.apu.specs.declared.Apu.{Apu}

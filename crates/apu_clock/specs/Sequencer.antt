@@ -4,9 +4,9 @@ use mathlib.Core.Bool.{Bool, not, _&&_, _||_}
 use lib.Dec.{eqb}
 use lib.IntN.{pos}
 use Rattle.ground.specs.Pick.{pick}
-use Rattle.groups.specs.PulseGroups as pulse
-use Rattle.groups.specs.WaveGroups as wave
-use Rattle.groups.specs.NoiseGroups as noise
+use Rattle.channel_groups.specs.PulseGroups as pulse
+use Rattle.channel_groups.specs.WaveGroups as wave
+use Rattle.channel_groups.specs.NoiseGroups as noise
 use Rattle.clocks.specs.Position.{nextOf}
 use Rattle.apu.specs.With.{withPulse1, withGroups, withBit, withPosition}
 use Rattle.apu.specs.declared.Apu.{Apu}

@@ -6,13 +6,13 @@ use Rattle.ground.specs.Num.{reloadOf}
 use Rattle.clocks.proofs.Conserved.{frames-by-formula}
 use Rattle.frame.specs.Converter as converter
 use Rattle.frame.specs.Mixing.{sideOf}
-use Rattle.groups.specs.PulseGroups.{byteOf}
+use Rattle.channel_groups.specs.PulseGroups.{byteOf}
 use Rattle.apu.specs.Start.{fresh, skipped}
 use Rattle.apu.specs.Registers.{readOf, byteAt, statusByte}
-use Rattle.pulse.specs.Sweep as sweep
-use Rattle.pulse.specs.Pulse as pulse
-use Rattle.wave.specs.Wave as wave
-use Rattle.noise.specs.Noise as noise
+use Rattle.channel_pulse.specs.Sweep as sweep
+use Rattle.channel_pulse.specs.Pulse as pulse
+use Rattle.channel_wave.specs.Wave as wave
+use Rattle.channel_noise.specs.Noise as noise
 use Rattle.examples.specs.Marked.{AllHold, end, _and_, marked}
 
 pub marked-hold : AllHold marked

@@ -11,12 +11,12 @@ use Rattle.frame.specs.Mixing.{sideOf}
 use Rattle.apu.specs.Start.{skipped}
 use Rattle.apu.specs.Registers.{readOf}
 use Rattle.apu.specs.Answers.{returnedOfRead}
-use Rattle.pulse.specs.Pulse as pulse
-use Rattle.pulse.specs.With as pulseWith
-use Rattle.wave.specs.Wave as wave
-use Rattle.wave.specs.With as waveWith
-use Rattle.noise.specs.Noise as noise
-use Rattle.pulse.specs.declared.pulse_channel.PulseChannel.{PulseChannel}
+use Rattle.channel_pulse.specs.Pulse as pulse
+use Rattle.channel_pulse.specs.With as pulseWith
+use Rattle.channel_wave.specs.Wave as wave
+use Rattle.channel_wave.specs.With as waveWith
+use Rattle.channel_noise.specs.Noise as noise
+use Rattle.channel_pulse.specs.declared.pulse_channel.PulseChannel.{PulseChannel}
 
 -- the example's number, what the rules give, and what the document says; yes and no are 1 and 0
 pub record Row : Type 0 where

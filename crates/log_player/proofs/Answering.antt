@@ -6,11 +6,11 @@ use mathlib.Core.List.{List}
 use native.Mathlib.Nat.{zero-add}
 use lib.ListN.{length, getD}
 use lib.Seq.{sets, sets-eq}
-use Rattle.records.specs.Records.{listed}
-use Rattle.access_log.specs.Answers.{isDone, scannedAs, scannedOf, withinRoom, outAfter}
-use Rattle.access_log.proofs.Bounds.{Packs, answer-packs}
-use Rattle.access_log.proofs.Done.{done-long, done-fits, done-out, refused-out}
-use Rattle.access_log.specs.declared.answer.Played.{Played}
+use Rattle.log_records.specs.Records.{listed}
+use Rattle.log_scan.specs.Answers.{isDone, scannedAs, scannedOf, withinRoom, outAfter}
+use Rattle.log_scan.proofs.Bounds.{Packs, answer-packs}
+use Rattle.log_scan.proofs.Done.{done-long, done-fits, done-out, refused-out}
+use Rattle.log_scan.specs.declared.answer.Played.{Played}
 use Rattle.log_player.specs.Logs.{outputOf, playedOf}
 use Rattle.log_player.proofs.Frames.{bytes-needed}
 

@@ -7,16 +7,16 @@ use native.Mathlib.Nat.{sub-zero}
 use native.Mathlib.Omega.{arith}
 use Rattle.ground.specs.Pick.{pick}
 use Rattle.ground.specs.Iterate.{iterate}
-use Rattle.records.specs.declared.judge.Record.{Record}
-use Rattle.records.specs.declared.judge.Record.the-variants.{Clock}
-use Rattle.records.specs.declared.judge.Clocks.{Clocks}
-use Rattle.records.specs.Records.{Parsed, clocksAt, recordsFrom, unrolled}
-use Rattle.records.proofs.Framing.{clocks-stand}
-use Rattle.run.specs.Working.{Take, workingOn, ranOf}
-use Rattle.clock_player.specs.Calls.{standing}
-use Rattle.clock_player.proofs.Rows.{rows, rows-none}
-use Rattle.clock_player.proofs.Marks.{front, ran-front}
-use Rattle.clock_player.proofs.Turns.{none, Later, rows-behind}
+use Rattle.log_records.specs.declared.judge.Record.{Record}
+use Rattle.log_records.specs.declared.judge.Record.the-variants.{Clock}
+use Rattle.log_records.specs.declared.judge.Clocks.{Clocks}
+use Rattle.log_records.specs.Records.{Parsed, clocksAt, recordsFrom, unrolled}
+use Rattle.log_records.proofs.Framing.{clocks-stand}
+use Rattle.apu_run.specs.Working.{Take, workingOn, ranOf}
+use Rattle.apu_run.specs.Calls.{standing}
+use Rattle.apu_run.proofs.Rows.{rows, rows-none}
+use Rattle.apu_run.proofs.Marks.{front, ran-front}
+use Rattle.apu_run.proofs.Turns.{none, Later, rows-behind}
 use Rattle.log_player.specs.declared.reckon.Reckoned.{Reckoned}
 use Rattle.log_player.specs.Playing.{bytesOf, unitAfter, output, unitAtEnd}
 use Rattle.log_player.specs.Coming.{recordsOn, callsOn, comingAt, Between, ahead, stepped, steppedOn}

@@ -9,20 +9,20 @@ use lib.Dec.{eqb, ltb}
 use Rattle.ground.specs.Pick.{pick}
 use Rattle.ground.proofs.Cases.{pick-holds}
 use Rattle.clocks.specs.Position.{nextOf, nextEven}
-use Rattle.groups.specs.declared.pulse_group.PulseGroup.{PulseGroup}
-use Rattle.groups.specs.declared.wave_group.WaveGroup.{WaveGroup}
-use Rattle.groups.specs.declared.noise_group.NoiseGroup.{NoiseGroup}
-use Rattle.groups.specs.PulseGroups as pulse
-use Rattle.groups.specs.WaveGroups as wave
-use Rattle.groups.specs.NoiseGroups as noise
+use Rattle.channel_groups.specs.declared.pulse_group.PulseGroup.{PulseGroup}
+use Rattle.channel_groups.specs.declared.wave_group.WaveGroup.{WaveGroup}
+use Rattle.channel_groups.specs.declared.noise_group.NoiseGroup.{NoiseGroup}
+use Rattle.channel_groups.specs.PulseGroups as pulse
+use Rattle.channel_groups.specs.WaveGroups as wave
+use Rattle.channel_groups.specs.NoiseGroups as noise
 use Rattle.apu.specs.With.{withPulse1, withPulse2, withWave, withNoise}
 use Rattle.apu.specs.Registers.{soundWritten, gatedWritten, writtenAt, writeOf}
 use Rattle.apu.specs.declared.Apu.{Apu}
 use Rattle.apu.proofs.Ranges.{write-held}
 use Rattle.apu.proofs.Floats.{write-floats}
-use Rattle.records.specs.declared.judge.Record.{Record}
-use Rattle.records.specs.declared.judge.Record.the-variants.{Write, Read, Clock, Pcm, Wrong}
-use Rattle.run.proofs.Ranges.{Ready}
+use Rattle.log_records.specs.declared.judge.Record.{Record}
+use Rattle.log_records.specs.declared.judge.Record.the-variants.{Write, Read, Clock, Pcm, Wrong}
+use Rattle.apu_run.proofs.Ranges.{Ready}
 use Rattle.log_player.specs.declared.body.GroupWrite.{GroupWrite}
 use Rattle.log_player.specs.Playing.{bytesOf, unitAfter}
 use Rattle.log_player.specs.Bodies.{noWrite, groupAt, groupWriteOf}

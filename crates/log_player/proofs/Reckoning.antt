@@ -9,17 +9,17 @@ use Rattle.ground.specs.Pick.{pick}
 use Rattle.ground.specs.Iterate.{iterate}
 use Rattle.apu.specs.declared.Apu.{Apu}
 use Rattle.apu_clock.specs.Sequencer.{bitOf, advanced}
-use Rattle.records.specs.declared.judge.Clocks.{Clocks}
-use Rattle.records.specs.Records.{clocksAt, recordsFrom, unrolled}
-use Rattle.records.specs.declared.judge.Record.{Record}
-use Rattle.records.proofs.Framing.{clocks-stand}
-use Rattle.run.specs.Working.{Take, workingOn, ranOf}
-use Rattle.clock_player.specs.Calls.{standing, dividerAt}
-use Rattle.clock_player.specs.Owed.{OneBit, metOf, marked}
-use Rattle.clock_player.specs.declared.calls.Met.{Met}
-use Rattle.clock_player.proofs.Marks.{ran-marked, ran-own}
-use Rattle.clock_player.proofs.Stretches.{fallenTake, met-half, met-few, fell-some}
-use Rattle.clock_player.proofs.Turns.{none, Meets, calls-on, calls-fell}
+use Rattle.log_records.specs.declared.judge.Clocks.{Clocks}
+use Rattle.log_records.specs.Records.{clocksAt, recordsFrom, unrolled}
+use Rattle.log_records.specs.declared.judge.Record.{Record}
+use Rattle.log_records.proofs.Framing.{clocks-stand}
+use Rattle.apu_run.specs.Working.{Take, workingOn, ranOf}
+use Rattle.apu_run.specs.Calls.{standing, dividerAt}
+use Rattle.apu_run.specs.Owed.{OneBit, metOf, marked}
+use Rattle.apu_run.specs.declared.calls.Met.{Met}
+use Rattle.apu_run.proofs.Marks.{ran-marked, ran-own}
+use Rattle.apu_run.proofs.Stretches.{fallenTake, met-half, met-few, fell-some}
+use Rattle.apu_run.proofs.Turns.{none, Meets, calls-on, calls-fell}
 use Rattle.log_player.specs.declared.reckon.Reckoned.{Reckoned}
 use Rattle.log_player.specs.Coming.{recordsOn, callsOn, comingAt, Between, steppedOn, Reckons}
 use Rattle.log_player.proofs.Coming.{coming-calls, Passed, passed-some, passed-all, stepped-none}

@@ -4,10 +4,10 @@ use Prim.Native.Nat.{ℕ, _+_, _-_}
 use mathlib.Core.Bool.{true, false}
 use lib.Dec.{ltb}
 use Rattle.ground.specs.Pick.{pick}
-use Rattle.records.specs.declared.cut.Cut.{Cut}
-use Rattle.records.specs.declared.cut.Cut.the-variants.{End, Short, Body}
-use Rattle.records.specs.declared.judge.Record.{Record}
-use Rattle.records.specs.declared.judge.Record.the-variants.{Write, Read, Clock, Pcm, Wrong}
+use Rattle.log_records.specs.declared.cut.Cut.{Cut}
+use Rattle.log_records.specs.declared.cut.Cut.the-variants.{End, Short, Body}
+use Rattle.log_records.specs.declared.judge.Record.{Record}
+use Rattle.log_records.specs.declared.judge.Record.the-variants.{Write, Read, Clock, Pcm, Wrong}
 use Rattle.log_player.specs.declared.body.Part.{Part}
 use Rattle.log_player.specs.declared.body.GroupWrite.{GroupWrite}
 

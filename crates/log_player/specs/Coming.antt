@@ -9,12 +9,12 @@ use Rattle.ground.specs.Pick.{pick}
 use Rattle.ground.specs.Iterate.{iterate}
 use Rattle.apu.specs.declared.Apu.{Apu}
 use Rattle.apu_clock.specs.Sequencer.{advanced}
-use Rattle.run.specs.Working.{Take, workingOn, ranOf}
-use Rattle.clock_player.specs.Calls.{standing, clocksBytes, afterClocks}
-use Rattle.clock_player.specs.Owed.{marked}
-use Rattle.records.specs.declared.judge.Record.{Record}
-use Rattle.records.specs.declared.judge.Clocks.{Clocks}
-use Rattle.records.specs.Records.{clocksAt, recordsFrom, unrolled}
+use Rattle.apu_run.specs.Working.{Take, workingOn, ranOf}
+use Rattle.apu_run.specs.Calls.{standing, clocksBytes, afterClocks}
+use Rattle.apu_run.specs.Owed.{marked}
+use Rattle.log_records.specs.declared.judge.Record.{Record}
+use Rattle.log_records.specs.declared.judge.Clocks.{Clocks}
+use Rattle.log_records.specs.Records.{clocksAt, recordsFrom, unrolled}
 use Rattle.log_player.specs.declared.reckon.Reckoned.{Reckoned}
 use Rattle.log_player.specs.Playing.{output, unitAtEnd}
 

@@ -2,9 +2,9 @@
 use Prim.Native.Nat.{ℕ}
 use mathlib.Core.List.{List}
 use lib.ListN.{length, getD}
-use Rattle.records.specs.Records.{listed}
-use Rattle.access_log.specs.Answers.{scannedAs, withinRoom}
-use Rattle.access_log.specs.declared.answer.Played.{Played}
+use Rattle.log_records.specs.Records.{listed}
+use Rattle.log_scan.specs.Answers.{scannedAs, withinRoom}
+use Rattle.log_scan.specs.declared.answer.Played.{Played}
 use Rattle.log_player.specs.Playing.{started, output}
 
 -- the bytes of a log's records, from the unit that its start byte asks for

@@ -1,13 +1,13 @@
 // The record at a place of a log: where its body ends, and the write to one group that it may be.
 ghost use mathlib.Core.Path.{_≡_};
 ghost use Rattle.ground.specs.Pick.{pick};
-ghost use Rattle.records.specs.Judge.{judgeOf};
-ghost use Rattle.records.specs.Records.{cutAt};
+ghost use Rattle.log_records.specs.Judge.{judgeOf};
+ghost use Rattle.log_records.specs.Records.{cutAt};
 ghost use Rattle.log_player.specs.Bodies.{partOf, noWrite, groupAt, groupWriteOf};
-use records::cut::Cut;
-use records::cut::cut_at;
-use records::judge::Record;
-use records::judge::judge;
+use log_records::cut::Cut;
+use log_records::cut::cut_at;
+use log_records::judge::Record;
+use log_records::judge::judge;
 
 // Whether a whole record is there, and the place after it.
 pub struct Part {

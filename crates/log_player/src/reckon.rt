@@ -3,11 +3,11 @@ ghost use mathlib.Core.Path.{_≡_};
 ghost use Prim.Native.Nat.{_≤_};
 ghost use Rattle.log_player.specs.Coming.{beginsAt, Between, Reckons, Still};
 use apu_clock::sequencer::sequencer_bit;
-use clock_player::calls::Divider;
-use clock_player::calls::divider_at;
-use clock_player::calls::meet;
-use clock_player::calls::same_bit;
-use records::judge::clocks_at;
+use apu_run::calls::Divider;
+use apu_run::calls::divider_at;
+use apu_run::calls::meet;
+use apu_run::calls::same_bit;
+use log_records::judge::clocks_at;
 
 // Where a player stands in a log, and what it owes there: `owed` working clocks, then the sequencer's step if the divider's bit `fell`, then `more` of them.
 pub struct Reckoned {

@@ -3,16 +3,16 @@
 // for kind 1 the output's bytes, for kind 2 a digest of them in eight; kind 0 names the family that follows, in place of a log.
 mod compare;
 
-use access_log::answer::Played;
-use access_log::answer::refusal;
-use access_log::answer::returned;
 use compare::byte;
 use compare::digest_is;
 use compare::fill;
 use compare::starts_with;
 use compare::untouched;
 use compare::word;
-use log_player::entry::play_log;
+use log_player::log::play_log;
+use log_scan::answer::Played;
+use log_scan::answer::refusal;
+use log_scan::answer::returned;
 
 // Logs, bytes and differing logs of the family so far and of those before it; whether there is more to read.
 struct Tally {

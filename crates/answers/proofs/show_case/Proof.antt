@@ -1,6 +1,6 @@
 -- The room is within the output. Assumes nothing.
 use borrow.Author.Needs.{needs}
-use Rattle.output.proofs.Stores.{prefix-counts}
+use Rattle.log_items.proofs.Stores.{prefix-counts}
 use Rattle.answers.proofs.show_case.Statement.{statement}
 use Rattle.answers.proofs.show_case.Tie as tie
 

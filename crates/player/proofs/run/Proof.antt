@@ -4,8 +4,8 @@ use native.Mathlib.Omega.{arith}
 use mathlib.Core.Path.{_≡_}
 use mathlib.Core.Bool.{true}
 use denote.Ref.{now}
-use Rattle.access_log.specs.Answers.{isDone, scannedOf}
-use Rattle.access_log.proofs.Done.{scanned-long}
+use Rattle.log_scan.specs.Answers.{isDone, scannedOf}
+use Rattle.log_scan.proofs.Done.{scanned-long}
 use Rattle.player.proofs.run.Statement.{statement}
 use Rattle.player.proofs.run.Tie as tie
 

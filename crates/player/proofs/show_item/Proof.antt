@@ -5,10 +5,10 @@ use mathlib.Core.Path.{ap}
 use native.Mathlib.Nat.{zero-add}
 use lib.ListN.{length}
 use denote.Ref.{now}
-use Rattle.records.specs.Judge.{judgeOf}
+use Rattle.log_records.specs.Judge.{judgeOf}
 use Rattle.log_player.specs.Playing.{bytesOf}
-use Rattle.clock_player.specs.declared.calls.Play.{Play}
-use Rattle.output.proofs.Stores.{prefix-counts}
+use Rattle.apu_run.specs.declared.calls.Play.{Play}
+use Rattle.log_items.proofs.Stores.{prefix-counts}
 use Rattle.player.proofs.show_item.Statement.{statement}
 use Rattle.player.proofs.show_item.Tie as tie
 

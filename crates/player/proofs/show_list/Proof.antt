@@ -5,8 +5,8 @@ use Prim.Native.Nat.{_+_, _-_}
 use mathlib.Core.Path.{sym, _∙_}
 use native.Mathlib.Nat.{add-sub-cancel-left}
 use lib.ListN.{length}
-use Rattle.records.specs.Records.{recordsFrom, unrolled, listed}
-use Rattle.records.proofs.Framing.{body-fits, list-end, list-short, list-body}
+use Rattle.log_records.specs.Records.{recordsFrom, unrolled, listed}
+use Rattle.log_records.proofs.Framing.{body-fits, list-end, list-short, list-body}
 use Rattle.player.proofs.Showing.{Showing, showing, show-on, shown-all}
 use Rattle.player.proofs.show_list.Statement.{statement}
 use Rattle.player.proofs.show_list.Tie as tie

@@ -3,7 +3,7 @@ use borrow.Author.Needs.{needs}
 use native.Mathlib.Omega.{arith}
 use mathlib.Core.Path.{sym, _∙_}
 use denote.Ref.{now}
-use Rattle.records.specs.Judge.{judgeOf}
+use Rattle.log_records.specs.Judge.{judgeOf}
 use Rattle.player.proofs.Showing.{few, clocked-shown}
 use Rattle.player.proofs.show_record.Statement.{statement}
 use Rattle.player.proofs.show_record.Tie as tie

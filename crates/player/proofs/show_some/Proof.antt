@@ -3,9 +3,9 @@ use borrow.Author.Needs.{needs}
 use native.Mathlib.Omega.{arith}
 use mathlib.Core.Path.{ap}
 use denote.Ref.{now}
-use Rattle.clock_player.specs.declared.calls.Play.{Play}
+use Rattle.apu_run.specs.declared.calls.Play.{Play}
 use Rattle.player.proofs.Showing.{some-room}
-use Rattle.output.proofs.Stores.{prefix-counts}
+use Rattle.log_items.proofs.Stores.{prefix-counts}
 use Rattle.player.proofs.show_some.Statement.{statement}
 use Rattle.player.proofs.show_some.Tie as tie
 

@@ -1,6 +1,6 @@
 -- The log and the room are within their buffers. Assumes nothing.
 use borrow.Author.Needs.{needs}
-use Rattle.output.proofs.Stores.{prefix-counts}
+use Rattle.log_items.proofs.Stores.{prefix-counts}
 use Rattle.replay.proofs.answer_of.Statement.{statement}
 use Rattle.replay.proofs.answer_of.Tie as tie
 

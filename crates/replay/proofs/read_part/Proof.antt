@@ -1,6 +1,6 @@
 -- The part is within the buffer. Assumes nothing.
 use borrow.Author.Needs.{needs}
-use Rattle.output.proofs.Stores.{prefix-counts}
+use Rattle.log_items.proofs.Stores.{prefix-counts}
 use Rattle.replay.proofs.read_part.Statement.{statement}
 use Rattle.replay.proofs.read_part.Tie as tie
 

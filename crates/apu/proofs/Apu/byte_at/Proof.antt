@@ -4,7 +4,7 @@ use borrow.Author.Tests.{eq-eqb, ne-eqb, lt-ltb, le-ltb}
 use native.Mathlib.Omega.{arith}
 use Rattle.ground.specs.Pick.{pick}
 use Rattle.apu.specs.Registers.{byteAt}
-use Rattle.pulse.proofs.Ranges.{sweep-byte-le}
+use Rattle.channel_pulse.proofs.Ranges.{sweep-byte-le}
 use Rattle.apu.proofs.Apu.byte_at.Statement.{statement}
 use Rattle.apu.proofs.Apu.byte_at.Tie as tie
 

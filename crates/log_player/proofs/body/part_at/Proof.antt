@@ -3,7 +3,7 @@ use borrow.Author.Needs.{needs}
 use native.Mathlib.Omega.{arith}
 use mathlib.Core.Path.{sym, ap, _∙_}
 use denote.Ref.{now}
-use Rattle.records.proofs.Framing.{body-fits}
+use Rattle.log_records.proofs.Framing.{body-fits}
 use Rattle.log_player.specs.Bodies.{partOf}
 use Rattle.log_player.proofs.body.part_at.Statement.{statement}
 use Rattle.log_player.proofs.body.part_at.Tie as tie

@@ -1,6 +1,6 @@
 -- The place is within the text. Assumes nothing.
 use borrow.Author.Needs.{needs}
-use Rattle.output.proofs.Stores.{prefix-counts}
+use Rattle.log_items.proofs.Stores.{prefix-counts}
 use Rattle.player.proofs.text.flush.Statement.{statement}
 use Rattle.player.proofs.text.flush.Tie as tie
 

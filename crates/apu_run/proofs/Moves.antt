@@ -1,0 +1,100 @@
+-- Many clocks of what moves are each part's own, and keep its ranges. Assumes nothing.
+use mathlib.Core.Path.{_≡_, refl, sym, ap, _∙_}
+use mathlib.Core.Bool.{Bool, true, false, _&&_}
+use lib.Dec.{leb}
+use borrow.Author.Tests.{leb-true}
+use Prim.Native.Nat.{ℕ, zero, suc, _+_, _-_, _*_, _≤_}
+use native.Mathlib.Omega.{arith}
+use Rattle.ground.specs.Iterate.{iterate}
+use Rattle.ground.proofs.Cases.{pick-true, pick-false, pick-holds, and-left, and-right}
+use Rattle.ground.proofs.Timers.{iterate-holds}
+use Rattle.channel_pulse.specs.Tone.{toneClocked}
+use Rattle.channel_pulse.proofs.Tones as tones
+use Rattle.channel_wave.specs.Swing.{swingClocked}
+use Rattle.channel_wave.proofs.Swings as swings
+use Rattle.channel_noise.specs.Noise.{reloadOf}
+use Rattle.channel_noise.specs.Hiss.{hissClocked}
+use Rattle.channel_noise.proofs.Hisses as hisses
+use Rattle.apu.specs.Held.{Held, FloatsHeld}
+use Rattle.apu.specs.declared.Apu.{Apu}
+use Rattle.apu_run.specs.Moving.{StillHeld, MovingHeld, ConvertersHeld, stillOf, movingOf, convertersOf, slowOf, moveOf}
+use Rattle.apu_run.specs.declared.moving.Moving.{Moving}
+use Rattle.apu_run.specs.declared.moving.Still.{Still}
+
+module _ (s : Still) where
+  -- with power on, each part by itself
+  pub moves : (n : ℕ) (m : Moving) → s .power ≡ true
+      → record {
+        pulse1 = iterate n (toneClocked (s .pulse1 .«first_trigger») (2047 - s .pulse1 .frequency)) (m .pulse1);
+        pulse2 = iterate n (toneClocked (s .pulse2 .«first_trigger») (2047 - s .pulse2 .frequency)) (m .pulse2);
+        wave = iterate n (swingClocked (2047 - s .wave .frequency)) (m .wave);
+        noise = iterate n (hissClocked (s .noise .«step_mode_7_bits») (reloadOf (s .noise))) (m .noise);
+      }
+      ≡ iterate n (moveOf s) m
+  unfolding iterate moveOf
+  moves zero m on = refl
+  moves (suc n) m on = moves n _ on ∙ ap (iterate n (moveOf s)) (sym (pick-true (s .power) _ m on))
+
+  -- with power off, nothing
+  pub stands : (n : ℕ) (m : Moving) → s .power ≡ false → iterate n (moveOf s) m ≡ m
+  unfolding iterate moveOf
+  stands zero m off = refl
+  stands (suc n) m off = ap (iterate n (moveOf s)) (pick-false (s .power) _ m off) ∙ stands n m off
+
+  small : (f : ℕ) → 2047 - f ≤ 2047
+  small f = omega arith
+
+  move-held : StillHeld s → (m : Moving) → MovingHeld m → MovingHeld (moveOf s m)
+  unfolding moveOf
+  move-held h m k =
+      pick-holds MovingHeld (s .power) _ m
+      (λ _. record {
+        pulse1 = tones.tone-held _ _ (m .pulse1) (small (s .pulse1 .frequency)) (k .pulse1);
+        pulse2 = tones.tone-held _ _ (m .pulse2) (small (s .pulse2 .frequency)) (k .pulse2);
+        wave = swings.swing-held _ (m .wave) (small (s .wave .frequency)) (k .wave);
+        noise = hisses.hiss-held _ _ (m .noise) (hisses.reload-most (s .noise)) (k .noise);
+      })
+      (λ _. k)
+
+  pub moves-held : StillHeld s → (n : ℕ) (m : Moving) → MovingHeld m → MovingHeld (iterate n (moveOf s) m)
+  moves-held h n m k = iterate-holds MovingHeld (moveOf s) (move-held h) n m k
+
+-- ---- clocks no more than a period has, two for each of the wave's
+pub record Near (s : Still) (n : ℕ) : Type 0 where
+  pub some : 1 ≤ n
+  pub pulse1 : n ≤ 2047 - s .pulse1 .frequency + 1
+  pub pulse2 : n ≤ 2047 - s .pulse2 .frequency + 1
+  pub wave : n * 2 ≤ 2047 - s .wave .frequency + 1
+
+pub near-of : (s : Still) (n : ℕ) (slow : Bool) → slow ≡ slowOf s → (slow && (leb 1 n && leb n 24)) ≡ true → Near s n
+near-of s n slow e h =
+    let tests : (slowOf s && (leb 1 n && leb n 24)) ≡ true = rw (← e) h in
+    let timers = and-left (slowOf s) (leb 1 n && leb n 24) tests in
+    let clocks = and-right (slowOf s) (leb 1 n && leb n 24) tests in
+    let others = and-right (leb (s .pulse1 .frequency) 2024) _ timers in
+    let few : n ≤ 24 = leb-true n 24 (and-right (leb 1 n) _ clocks) in
+    let first : s .pulse1 .frequency ≤ 2024 = leb-true _ _ (and-left (leb (s .pulse1 .frequency) 2024) _ timers) in
+    let second : s .pulse2 .frequency ≤ 2024 = leb-true _ _ (and-left (leb (s .pulse2 .frequency) 2024) _ others) in
+    let third : s .wave .frequency ≤ 2000 = leb-true _ _ (and-right (leb (s .pulse2 .frequency) 2024) _ others) in
+    record {
+      some = leb-true 1 n (and-left (leb 1 n) _ clocks);
+      pulse1 = omega arith;
+      pulse2 = omega arith;
+      wave = omega arith;
+    }
+
+-- the ranges of the unit's own
+pub still-held : (a : Apu) → Held a → StillHeld (stillOf a)
+still-held a h = record { pulse1 = h .pulse1 .channel; pulse2 = h .pulse2 .channel; wave = h .wave .channel; noise = h .noise .channel }
+
+pub moving-held : (a : Apu) → Held a → MovingHeld (movingOf a)
+moving-held a h =
+    record {
+      pulse1 = tones.own-held _ (h .pulse1 .channel);
+      pulse2 = tones.own-held _ (h .pulse2 .channel);
+      wave = swings.own-held _ (h .wave .channel);
+      noise = hisses.hiss-of-held _ (h .noise .channel);
+    }
+
+pub converters-held : (a : Apu) → FloatsHeld a → ConvertersHeld (convertersOf a)
+converters-held a h = record { pulse1 = h .pulse1; pulse2 = h .pulse2; wave = h .wave; noise = h .noise }

@@ -1,0 +1,19 @@
+-- By whether it runs. Assumes nothing.
+use borrow.Author.Needs.{needs}
+use Rattle.ground.proofs.Cases.{pick-true, pick-false}
+use Rattle.apu_run.specs.Calls.{dividerAt}
+use Rattle.apu_run.proofs.calls.divider_at.Statement.{statement}
+use Rattle.apu_run.proofs.calls.divider_at.Tie as tie
+
+pub divider-at-spec : {M : Type 1} → statement M
+unfolding dividerAt
+divider-at-spec =
+    tie.close
+    (tie.spec
+    (λ c. search needs)
+    (λ c. search needs)
+    (λ c. search needs)
+    (λ c. search needs)
+    (λ c. search needs)
+    (λ c. search (needs, pick-true))
+    (λ c. search (needs, pick-false)))

@@ -1,0 +1,147 @@
+// From frame to frame: the channels go their clocks up to the next frame at once, then the frame, and on.
+ghost use mathlib.Core.Path.{_≡_};
+ghost use Prim.Native.Nat.{_+_, _-_, _≤_, _<_};
+ghost use mathlib.Core.Bool.{true};
+ghost use lib.Dec.{leb};
+ghost use lib.ListN.{length};
+ghost use lib.Seq.{sets};
+ghost use Rattle.ground.specs.Pick.{pick};
+ghost use Rattle.clocks.specs.Calls.{K};
+ghost use Rattle.apu.specs.Held.{Held, FloatsHeld};
+ghost use Rattle.apu_run.specs.Working.{ranOf};
+ghost use Rattle.apu_run.specs.Parts.{silentOf, behind, partsOf};
+use crate::moving::Converters;
+use crate::moving::Moving;
+use crate::moving::converters_of;
+use crate::moving::moving_of;
+use crate::moving::still_of;
+use crate::settings::settings_of;
+use crate::shot::shoot;
+use apu::Apu;
+use clocks::distance::counter_of;
+use clocks::distance::later;
+use clocks::distance::past_frame;
+use clocks::distance::units_of;
+use clocks::distance::until;
+use log_items::items::put_mix;
+use log_items::items::put_silence;
+
+// What a run moved, to be put back into its unit, and the place after its bytes. (The unit itself, handed back whole, would be copied twice.)
+pub struct Parts {
+    pub moving: Moving,
+    pub converters: Converters,
+    pub counter: f64,
+    pub at: usize,
+}
+
+// The channels' clocks before the frame that is due, or those that are left where it does not come.
+fn before_frame(due: u32, left: u32) -> u32
+    ensures { λ r. ⌜ r ≡ pick (leb due left) (due - 1) left ⌝ }
+{
+    if due <= left {
+        if due == 0 { 0 } else { due - 1 }
+    } else {
+        left
+    }
+}
+
+// So many working clocks of a unit whose sample counter is ahead, at so many units: its channels have `waiting` clocks to come before them.
+fn sound_from(
+    unit: Apu,
+    ahead: u64,
+    count: u32,
+    waiting: u32,
+    out: &mut [u8],
+    start: usize,
+) -> Parts
+    requires { ⌜ Held unit ⌝ }
+    requires { ⌜ FloatsHeld unit ⌝ }
+    requires { ⌜ ahead < K ⌝ }
+    requires { ⌜ waiting + count ≤ 32767 ⌝ }
+    requires { ⌜ start + length (ranOf count (behind unit ahead waiting) .bytes) ≤ length (now out) ⌝ }
+    ensures { λ r. ⌜ r ≡ partsOf (ranOf count (behind unit ahead waiting)) start ⌝ }
+    ensures { λ _. ⌜ now (out .exit) ≡ sets (now (out .entry)) start (ranOf count (behind unit ahead waiting) .bytes) ⌝ }
+{
+    let still = still_of(unit);
+    let settings = settings_of(still);
+    let wave = still.wave;
+    let ram = wave.buffer;
+    let mut moving = moving_of(unit);
+    let mut converters = converters_of(unit);
+    let mut units = ahead;
+    let mut due = until(units);
+    let mut left = count;
+    let mut at = start;
+    // after a frame 1: the channels' clock of the frame's own call comes after the frame
+    let mut pending = waiting;
+    loop {
+        moving = moving.advance(still, pending + before_frame(due, left));
+        if left < due {
+            let counter = counter_of(later(units, left));
+            return Parts {
+                moving,
+                converters,
+                counter,
+                at,
+            };
+        }
+        let shot = shoot(settings, moving, converters, &ram);
+        put_mix(out, at, shot.mix);
+        converters = shot.converters;
+        at += 41;
+        units = past_frame(units, due);
+        left -= due;
+        pending = 1;
+        due = until(units);
+    }
+}
+
+// So many working clocks, none of which moves the sequencer, with their frames' bytes from `start` on.
+pub fn sound(unit: Apu, count: u32, out: &mut [u8], start: usize) -> Parts
+    requires { ⌜ Held unit ⌝ }
+    requires { ⌜ FloatsHeld unit ⌝ }
+    requires { ⌜ count ≤ 32767 ⌝ }
+    requires { ⌜ start + length (ranOf count unit .bytes) ≤ length (now out) ⌝ }
+    ensures { λ r. ⌜ r ≡ partsOf (ranOf count unit) start ⌝ }
+    ensures { λ _. ⌜ now (out .exit) ≡ sets (now (out .entry)) start (ranOf count unit .bytes) ⌝ }
+{
+    sound_from(unit, units_of(unit.sample_counter), count, 0, out, start)
+}
+
+// Whether all four channels are muted, as with power off.
+pub fn silent(unit: Apu) -> bool
+    ensures { λ r. ⌜ r ≡ silentOf unit ⌝ }
+{
+    let pulse1 = unit.pulse1.channel;
+    let pulse2 = unit.pulse2.channel;
+    let wave = unit.wave.channel;
+    let noise = unit.noise.channel;
+    pulse1.muted() & (pulse2.muted() & (wave.muted() & noise.muted()))
+}
+
+// The same as `sound`, of a unit whose channels are all muted: every frame is silence, and the channels' clocks all wait to the end. (As a function of its own:
+// in one with `sound_from` the loop over frames takes a tenth longer.)
+pub fn rest(unit: Apu, count: u32, out: &mut [u8], start: usize) -> Parts
+    requires { ⌜ silentOf unit ≡ true ⌝ }
+    requires { ⌜ Held unit ⌝ }
+    requires { ⌜ FloatsHeld unit ⌝ }
+    requires { ⌜ count ≤ 32767 ⌝ }
+    requires { ⌜ start + length (ranOf count unit .bytes) ≤ length (now out) ⌝ }
+    ensures { λ r. ⌜ r ≡ partsOf (ranOf count unit) start ⌝ }
+    ensures { λ _. ⌜ now (out .exit) ≡ sets (now (out .entry)) start (ranOf count unit .bytes) ⌝ }
+{
+    let mut units = units_of(unit.sample_counter);
+    let mut due = until(units);
+    let mut left = count;
+    let mut at = start;
+    let mut waiting = 0u32;
+    while due <= left {
+        put_silence(out, at);
+        at += 41;
+        units = past_frame(units, due);
+        left -= due;
+        waiting += due;
+        due = until(units);
+    }
+    sound_from(unit, units, left, waiting, out, at)
+}

@@ -1,0 +1,14 @@
+-- The parts are the definition's, by what the calls ensure. Assumes nothing.
+use borrow.Author.Needs.{needs}
+use Rattle.channel_groups.specs.PulseGroups.{lengthClocked}
+use Rattle.channel_groups.proofs.pulse_group.PulseGroup.clock_length_counter.Statement.{statement}
+use Rattle.channel_groups.proofs.pulse_group.PulseGroup.clock_length_counter.Tie as tie
+
+pub clock-length-counter-spec : {M : Type 1} → statement M
+unfolding lengthClocked
+clock-length-counter-spec =
+    tie.close
+    (tie.spec
+    (λ c κs. search needs)
+    (λ c κs. search needs)
+    (λ c. rw (c .set-enable .ensures, c .before .before .before .before .before .clock-length-counter .ensures)))

@@ -1,0 +1,52 @@
+-- Each arm is the case of `byteOf` that the offset picks. Assumes nothing.
+use borrow.Author.Needs.{needs}
+use borrow.Author.Tests.{ne-eqb}
+use Rattle.ground.specs.Pick.{pick}
+use Rattle.channel_groups.specs.WaveGroups.{byteOf}
+use Rattle.channel_groups.proofs.wave_group.WaveGroup.read.Statement.{statement}
+use Rattle.channel_groups.proofs.wave_group.WaveGroup.read.Tie as tie
+
+flag-requires : tie.Need-flag-requires
+flag-requires c κs = search needs
+
+add-result : tie.Need-add-result
+add-result c = search needs
+
+mul-result : tie.Need-mul-result
+mul-result c = search needs
+
+add-result-2 : tie.Need-add-result-2
+add-result-2 c = search needs
+
+control-byte-requires : tie.Need-control-byte-requires
+control-byte-requires c κs = search needs
+
+returns : tie.Need-returns
+unfolding pick byteOf
+returns c = rw (c .flag .ensures .0, c .before .match .keys1)
+
+returns-2 : tie.Need-returns-2
+unfolding pick byteOf
+returns-2 c = rw (c .before .match .keys2)
+
+returns-3 : tie.Need-returns-3
+unfolding pick byteOf
+returns-3 c = rw (c .control-byte .ensures, c .before .match .keys3)
+
+returns-4 : tie.Need-returns-4
+unfolding pick byteOf
+returns-4 c = rw (ne-eqb _ _ (c .match .rest .0 .0 .1), ne-eqb _ _ (c .match .rest .0 .1), ne-eqb _ _ (c .match .rest .1))
+
+pub read-spec : {M : Type 1} → statement M
+read-spec =
+    tie.close
+    (tie.spec
+    flag-requires
+    add-result
+    mul-result
+    add-result-2
+    control-byte-requires
+    returns
+    returns-2
+    returns-3
+    returns-4)

@@ -1,0 +1,13 @@
+-- The parts are the definition's, by what the calls ensure. Assumes nothing.
+use borrow.Author.Needs.{needs}
+use Rattle.channel_groups.specs.WaveGroups.{silenced}
+use Rattle.channel_groups.proofs.wave_group.WaveGroup.silence.Statement.{statement}
+use Rattle.channel_groups.proofs.wave_group.WaveGroup.silence.Tie as tie
+
+pub silence-spec : {M : Type 1} → statement M
+unfolding silenced
+silence-spec =
+    tie.close
+    (tie.spec
+    (λ c κs. search needs)
+    (λ c. rw (c .set-enable .ensures)))

@@ -1,0 +1,62 @@
+-- Each arm is the case of `written` that the offset picks. Assumes nothing.
+use borrow.Author.Needs.{needs}
+use borrow.Author.Tests.{ne-eqb}
+use Rattle.ground.specs.Pick.{pick}
+use Rattle.channel_groups.specs.WaveGroups.{written}
+use Rattle.channel_groups.proofs.wave_group.WaveGroup.write.Statement.{statement}
+use Rattle.channel_groups.proofs.wave_group.WaveGroup.write.Tie as tie
+
+write-dac-requires : tie.Need-write-dac-requires
+write-dac-requires c κs = search needs
+
+write-length-requires : tie.Need-write-length-requires
+write-length-requires c κs = search needs
+
+write-volume-requires : tie.Need-write-volume-requires
+write-volume-requires c κs = search needs
+
+write-low-requires : tie.Need-write-low-requires
+write-low-requires c κs = search needs
+
+write-control-requires : tie.Need-write-control-requires
+write-control-requires c κs = search needs
+
+returns : tie.Need-returns
+unfolding pick written
+returns c = rw (c .write-dac .ensures, c .before .match .keys1)
+
+returns-2 : tie.Need-returns-2
+unfolding pick written
+returns-2 c = rw (c .write-length .ensures, c .before .match .keys2)
+
+returns-3 : tie.Need-returns-3
+unfolding pick written
+returns-3 c = rw (c .write-volume .ensures, c .before .match .keys3)
+
+returns-4 : tie.Need-returns-4
+unfolding pick written
+returns-4 c = rw (c .write-low .ensures, c .before .match .keys4)
+
+returns-5 : tie.Need-returns-5
+unfolding pick written
+returns-5 c = rw (c .write-control .ensures, c .before .match .keys5)
+
+returns-6 : tie.Need-returns-6
+unfolding pick written
+returns-6 c = rw (ne-eqb _ _ (c .match .rest .0 .0 .0 .0 .1), ne-eqb _ _ (c .match .rest .0 .0 .0 .1), ne-eqb _ _ (c .match .rest .0 .0 .1), ne-eqb _ _ (c .match .rest .0 .1), ne-eqb _ _ (c .match .rest .1))
+
+pub write-spec : {M : Type 1} → statement M
+write-spec =
+    tie.close
+    (tie.spec
+    write-dac-requires
+    write-length-requires
+    write-volume-requires
+    write-low-requires
+    write-control-requires
+    returns
+    returns-2
+    returns-3
+    returns-4
+    returns-5
+    returns-6)

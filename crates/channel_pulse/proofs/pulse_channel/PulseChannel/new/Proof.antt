@@ -1,0 +1,21 @@
+-- The parts are fresh, by what their calls ensure. Assumes nothing.
+use borrow.Author.Needs.{needs}
+use Rattle.channel_pulse.proofs.pulse_channel.PulseChannel.new.Statement.{statement}
+use Rattle.channel_pulse.proofs.pulse_channel.PulseChannel.new.Tie as tie
+
+new-requires : tie.Need-new-requires
+new-requires c κs = search needs
+
+new-requires-2 : tie.Need-new-requires-2
+new-requires-2 c κs = search needs
+
+returns : tie.Need-returns
+returns c = rw (c .before .new .ensures, c .new2 .ensures)
+
+pub new-spec : {M : Type 1} → statement M
+new-spec =
+    tie.close
+    (tie.spec
+    new-requires
+    new-requires-2
+    returns)

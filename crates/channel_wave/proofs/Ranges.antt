@@ -1,0 +1,97 @@
+-- What the rules make of a wave channel that holds its ranges holds them again, a law for each definition; and outputs are nibbles. Assumes nothing.
+use mathlib.Core.Path.{_≡_, refl}
+use mathlib.Core.Logic.{inl, inr}
+use mathlib.Core.Bool.{Bool}
+use mathlib.Core.List.{List}
+use Prim.Native.Nat.{ℕ, _≤_, _<_}
+use native.Mathlib.Nat.{le-trans}
+use native.Mathlib.Omega.{arith}
+use lib.Pow.{shr-le}
+use lib.ListN.{length, length-set, length-replicate}
+use Rattle.ground.proofs.Cases.{both-ways}
+use Rattle.channel_wave.specs.Wave as wave
+use Rattle.channel_wave.specs.With as with
+use Rattle.channel_wave.specs.declared.wave_channel.WaveChannel.{WaveChannel}
+use Rattle.channel_wave.specs.declared.wave_channel.BufferIndex.{BufferIndex}
+use Rattle.channel_wave.specs.declared.wave_channel.BufferIndex.the-variants.{At, Nowhere}
+
+-- the stored shift, whichever of the two it is
+shift-table : (v : ℕ) → wave.shiftOf v ≤ 4
+unfolding wave.shiftOf
+shift-table v = both-ways (λ (n : ℕ). n ≤ 4) _ (omega arith) (both-ways (λ (n : ℕ). n ≤ 4) _ (omega arith) (both-ways (λ (n : ℕ). n ≤ 4) _ (omega arith) (omega arith)))
+
+shift-of-held : (v s : ℕ) → wave.ShiftHeld v s → s ≤ 4
+shift-of-held v s (inl e) = rw e (shift-table v)
+shift-of-held v s (inr e) = rw (e .1) (omega arith)
+
+pub shift-le : (w : WaveChannel) → wave.Held w → w .«volume_shift» ≤ 4
+shift-le w h = shift-of-held (w .volume) (w .«volume_shift») (h .shift)
+
+-- an access lands within wave RAM
+abbrev pub Lands : BufferIndex → Type 0
+Lands (At i) = i < 16
+Lands Nowhere = Unit
+
+pub index-lands : (w : WaveChannel) (dmg : Bool) (offset : ℕ) → Lands (wave.indexOf w dmg offset)
+unfolding wave.indexOf
+index-lands w dmg offset = both-ways Lands _ (both-ways Lands _ tt (omega arith)) (omega arith)
+
+pub wave-fresh-held : wave.Held wave.fresh
+wave-fresh-held = record { volume = omega arith; shift = inr (refl, refl); frequency = omega arith; buffer = length-replicate {A = ℕ} 16 0; position = omega arith; timer = omega arith }
+
+module _ (w : WaveChannel) (h : wave.Held w) where
+  pub wave-volume-held : (v : ℕ) → wave.Held (wave.volumeWritten w v)
+  wave-volume-held v = record { volume = omega arith; shift = inl refl; frequency = h .frequency; buffer = h .buffer; position = h .position; timer = h .timer }
+
+  pub wave-frequency-held : (f : ℕ) → f ≤ 2047 → wave.Held (with.withFrequency w f)
+  wave-frequency-held f k = record { volume = h .volume; shift = h .shift; frequency = k; buffer = h .buffer; position = h .position; timer = h .timer }
+
+  pub wave-position-held : wave.Held (with.withPosition w 0)
+  wave-position-held = record { volume = h .volume; shift = h .shift; frequency = h .frequency; buffer = h .buffer; position = omega arith; timer = h .timer }
+
+  wave-buffer-held : (b : List ℕ) → length b ≡ 16 → wave.Held (with.withBuffer w b)
+  wave-buffer-held b k = record { volume = h .volume; shift = h .shift; frequency = h .frequency; buffer = k; position = h .position; timer = h .timer }
+
+  pub wave-on-held : (on : Bool) → wave.Held (with.withOn w on)
+  wave-on-held on = record { volume = h .volume; shift = h .shift; frequency = h .frequency; buffer = h .buffer; position = h .position; timer = h .timer }
+
+  pub wave-dac-held : (dac : Bool) → wave.Held (wave.dacSet w dac)
+  wave-dac-held dac = record { volume = h .volume; shift = h .shift; frequency = h .frequency; buffer = h .buffer; position = h .position; timer = h .timer }
+
+  wave-moved-held : (position : ℕ) (just : Bool) (timer : ℕ) → position ≤ 31 → timer ≤ 2050 → wave.Held (with.moved w position just timer)
+  wave-moved-held position just timer a b = record { volume = h .volume; shift = h .shift; frequency = h .frequency; buffer = h .buffer; position = a; timer = b }
+
+  stored-length : (i : BufferIndex) (v : ℕ) → length (wave.storedIn (w .buffer) i v) ≡ 16
+  stored-length (At i) v = simp length-set (h .buffer)
+  stored-length Nowhere v = h .buffer
+
+  pub wave-stored-held : (dmg : Bool) (offset v : ℕ) → wave.Held (wave.stored w dmg offset v)
+  unfolding wave.stored
+  wave-stored-held dmg offset v = wave-buffer-held _ (stored-length (wave.indexOf w dmg offset) v)
+
+  pub wave-halved-held : wave.Held (wave.halved w)
+  unfolding wave.halved
+  wave-halved-held = both-ways wave.Held _ (wave-moved-held _ _ _ (omega arith) (omega arith)) (wave-moved-held _ _ _ (h .position) (omega arith))
+
+  trigger-length : (dmg : Bool) → length (wave.bufferAtTrigger w dmg) ≡ 16
+  unfolding wave.bufferAtTrigger wave.rewritten wave.fourFrom
+  trigger-length dmg =
+      both-ways (λ (b : List ℕ). length b ≡ 16) _
+      (both-ways (λ (b : List ℕ). length b ≡ 16) _ (simp length-set (h .buffer)) (simp length-set (h .buffer)))
+      (h .buffer)
+
+  pub wave-triggered-held : (dmg : Bool) → wave.Held (wave.triggered w dmg)
+  unfolding wave.triggered
+  wave-triggered-held dmg = record { volume = h .volume; shift = h .shift; frequency = h .frequency; buffer = trigger-length dmg; position = omega arith; timer = omega arith }
+
+pub wave-clocked-held : (w : WaveChannel) → wave.Held w → wave.Held (wave.clocked w)
+unfolding wave.clocked
+wave-clocked-held w h = wave-halved-held _ (wave-halved-held w h)
+
+nibble-le : (w : WaveChannel) → wave.nibbleOf w ≤ 15
+unfolding wave.nibbleOf
+nibble-le w = both-ways (λ (n : ℕ). n ≤ 15) _ (omega arith) (omega arith)
+
+pub wave-output-le : (w : WaveChannel) → wave.outputOf w ≤ 15
+unfolding wave.outputOf
+wave-output-le w = both-ways (λ (n : ℕ). n ≤ 15) _ (le-trans (shr-le (wave.nibbleOf w) (w .«volume_shift»)) (nibble-le w)) (omega arith)

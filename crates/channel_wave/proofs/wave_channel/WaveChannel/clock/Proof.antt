@@ -1,0 +1,15 @@
+-- The first half keeps the ranges that the second asks. Assumes nothing.
+use borrow.Author.Needs.{needs}
+use Rattle.channel_wave.specs.Wave.{clocked}
+use Rattle.channel_wave.proofs.Ranges.{wave-halved-held}
+use Rattle.channel_wave.proofs.wave_channel.WaveChannel.clock.Statement.{statement}
+use Rattle.channel_wave.proofs.wave_channel.WaveChannel.clock.Tie as tie
+
+pub clock-spec : {M : Type 1} → statement M
+unfolding clocked
+clock-spec =
+    tie.close
+    (tie.spec
+    (λ c κs. search needs)
+    (λ c κs. rw (c .half-clock .ensures) (wave-halved-held _ (c .before .pre)))
+    (λ c. rw (c .half-clock2 .ensures, c .before .half-clock .ensures)))

@@ -1,0 +1,38 @@
+-- Each arm is the case of `byteIn` that the index is, and the index lands within the sixteen bytes. Assumes nothing.
+use borrow.Author.Needs.{needs}
+use Rattle.channel_wave.specs.Wave.{byteAt}
+use mathlib.Core.Path.{sym, _∙_}
+use Rattle.channel_wave.proofs.Ranges.{index-lands}
+use Rattle.channel_wave.proofs.wave_channel.WaveChannel.read_buffer.Statement.{statement}
+use Rattle.channel_wave.proofs.wave_channel.WaveChannel.read_buffer.Tie as tie
+
+wave-buffer-index-requires : tie.Need-wave-buffer-index-requires
+wave-buffer-index-requires c κs = search needs
+
+enum-known-i : tie.Need-enum-known-i
+enum-known-i c = search needs
+
+array-read-result : tie.Need-array-read-result
+array-read-result c = rw (sym (c .before .before .before .wave-buffer-index .ensures) ∙ c .before .i .given .1) at (index-lands (c .before .before .before .before .before .args .self) (c .before .before .before .before .before .args .dmg) (c .before .before .before .before .before .args .offset))
+
+enum-told : tie.Need-enum-told
+enum-told c = search needs
+
+returns : tie.Need-returns
+unfolding byteAt
+returns c = rw (sym (c .before .before .before .wave-buffer-index .ensures) ∙ c .before .i .given .1)
+
+returns-2 : tie.Need-returns-2
+unfolding byteAt
+returns-2 c = rw (sym (c .before .before .wave-buffer-index .ensures) ∙ c .enum-told .given .1)
+
+pub read-buffer-spec : {M : Type 1} → statement M
+read-buffer-spec =
+    tie.close
+    (tie.spec
+    wave-buffer-index-requires
+    enum-known-i
+    array-read-result
+    enum-told
+    returns
+    returns-2)

@@ -1,0 +1,42 @@
+-- The answer is `play_log`'s, packed, and its counts are put. Assumes nothing.
+use borrow.Author.Needs.{needs}
+use lib.ListN.{length}
+use denote.Ref.{now}
+use Rattle.log_player.proofs.Answering.{played-packs}
+use Rattle.entries.proofs.log.play_access_log_counted.Statement.{statement}
+use Rattle.entries.proofs.log.play_access_log_counted.Tie as tie
+
+play-log-requires : tie.Need-play-log-requires
+play-log-requires c κs =
+    search needs
+
+put-counts-requires : tie.Need-put-counts-requires
+put-counts-requires c κs =
+    search needs
+
+pack-requires : tie.Need-pack-requires
+pack-requires c κs =
+    rw (c .before .before .before .before .before .before .play-log .ensures .0) (played-packs (now (c .before .before .before .before .before .before .before .before .before .before .before .args .log)) (length (now (c .before .before .before .before .before .before .before .before .before .before .before .args .out))))
+
+same-length : tie.Need-same-length
+same-length c =
+    c .before .before .before .before .before .before .before .play-log .kept .1 .0
+
+same-length-2 : tie.Need-same-length-2
+same-length-2 c =
+    c .before .before .before .put-counts .kept .1 .0
+
+returns : tie.Need-returns
+returns c =
+    (rw (c .pack .ensures, c .before .before .before .before .before .before .before .play-log .ensures .0), (rw (c .before .before .before .before .before .before .before .play-log .ensures .0) at (c .before .before .before .before .before .before .before .play-log .ensures .1), rw (c .before .before .before .before .before .before .before .play-log .ensures .0) at (c .before .before .before .put-counts .ensures)))
+
+pub play-access-log-counted-spec : {M : Type 1} → statement M
+play-access-log-counted-spec =
+    tie.close
+    (tie.spec
+    play-log-requires
+    put-counts-requires
+    pack-requires
+    same-length
+    same-length-2
+    returns)

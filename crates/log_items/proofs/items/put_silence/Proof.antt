@@ -1,0 +1,42 @@
+-- The pattern of 0 is four zeros, so forty of them stand behind the first byte. Assumes nothing.
+use borrow.Author.Needs.{needs}
+use native.Mathlib.Omega.{arith}
+use Prim.Native.Nat.{ℕ, suc, _+_, _-_}
+use mathlib.Core.Path.{_≡_, ap₂, _∙_}
+use mathlib.Core.List.{List}
+use denote.Ref.{now}
+use lib.Ieee.{ofBits, toBits}
+use lib.ListN.{set, replicate, length-set}
+use lib.Seq.{sets}
+use Rattle.log_items.specs.Items.{mixItem, silence}
+use Rattle.log_items.proofs.items.put_silence.Statement.{statement}
+use Rattle.log_items.proofs.items.put_silence.Tie as tie
+
+silent-bytes : (l x : List ℕ) (at : ℕ) → x ≡ sets (set l at 70) (at + 1) (replicate (at + 41 - (at + 1)) 0) → x ≡ sets l at (mixItem silence)
+unfolding mixItem ofBits toBits
+silent-bytes l x at e = e ∙ ap₂ (λ (i n : ℕ). sets (set l at 70) i (replicate n 0)) (after at) (forty at)
+  where
+    after : (at : ℕ) → at + 1 ≡ suc at
+    after at = omega arith
+
+    forty : (at : ℕ) → at + 41 - (at + 1) ≡ 40
+    forty at = omega arith
+
+returns : tie.Need-returns
+returns c = silent-bytes _ _ _ (c .before .before .put-zeros .ensures)
+
+same-length : tie.Need-same-length
+same-length c =
+    let start = c .before .before .before .before .before in
+    c .before .before .put-zeros .kept .0 ∙ length-set (now (start .args .out)) (start .args .at) 70
+
+pub put-silence-spec : {M : Type 1} → statement M
+put-silence-spec =
+    tie.close
+    (tie.spec
+    (λ c. search needs)
+    (λ c. search needs)
+    (λ c. search needs)
+    (λ c κs. search needs)
+    same-length
+    returns)

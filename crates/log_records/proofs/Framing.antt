@@ -1,0 +1,98 @@
+-- How a loop walks a log: what the records from a place on are, by what stands there. Assumes nothing.
+use Prim.Native.Nat.{ℕ, _+_, _-_, _≤_, _<_}
+use mathlib.Core.Path.{_≡_, refl, _∙_, ap, ap₂}
+use mathlib.Core.List.{List, [], _∷_}
+use mathlib.Core.Bool.{Bool, true, false}
+use native.Mathlib.Omega.{arith}
+use borrow.Author.Tests.{ltb-false, leb-false, leb-true, eqb-true, lt-leb, le-ltb}
+use lib.ListN.{length}
+use lib.Dec.{ltb, leb, eqb}
+use Rattle.ground.specs.Pick.{pick}
+use Rattle.log_records.specs.declared.cut.Cut.the-variants.{End, Short, Body}
+use Rattle.log_records.specs.declared.judge.Record.{Record}
+use Rattle.log_records.specs.declared.judge.Record.the-variants.{Clock}
+use Rattle.log_records.specs.declared.judge.Clocks.{Clocks}
+use Rattle.log_records.specs.Judge.{word, judgeOf, noClocks, clocksOf}
+use Rattle.log_records.specs.Records.{done, short, item, cutAt, bodyAt, clocksAt, grow, recordsFrom, records-step, unrolled}
+use Rattle.log_records.proofs.Judged.{clock-is, clocks-few}
+
+-- a body lies within its log
+pub body-fits : (s : List ℕ) (at n : ℕ) → cutAt s at ≡ Body n → at + 2 + n ≤ length s
+unfolding pick cutAt
+body-fits s at n e = go (leb (length s) at) (ltb (length s - at) 2) (ltb (length s - at - 2) (word s at)) refl refl refl e
+  where
+    go : (a b c : Bool) → leb (length s) at ≡ a → ltb (length s - at) 2 ≡ b → ltb (length s - at - 2) (word s at) ≡ c
+        → pick a End (pick b Short (pick c Short (Body (word s at)))) ≡ Body n → at + 2 + n ≤ length s
+    go true b c x y z h = let f : _≡_ {A = ℕ} 0 1 = cc in omega arith
+    go false true c x y z h = let f : _≡_ {A = ℕ} 0 1 = cc in omega arith
+    go false false true x y z h = let f : _≡_ {A = ℕ} 0 1 = cc in omega arith
+    go false false false x y z h =
+        let f : word s at ≡ n = cc in
+        omega (
+          arith,
+          leb-false (length s) at x,
+          ltb-false (length s - at) 2 y,
+          ltb-false (length s - at - 2) (word s at) z,
+        )
+
+-- the records from a place on
+module _ (s : List ℕ) (at : ℕ) where
+  pub at-end : cutAt s at ≡ End → recordsFrom s at ≡ done
+  at-end e = records-step s at ∙ ap (grow s at (recordsFrom s)) e
+
+  pub at-short : cutAt s at ≡ Short → recordsFrom s at ≡ short at
+  at-short e = records-step s at ∙ ap (grow s at (recordsFrom s)) e
+
+  pub at-body : (n : ℕ) → cutAt s at ≡ Body n → recordsFrom s at ≡ item at (judgeOf (bodyAt s at n)) (recordsFrom s (at + 2 + n))
+  at-body n e = records-step s at ∙ ap (grow s at (recordsFrom s)) e
+
+  -- and without their places
+  pub list-end : cutAt s at ≡ End → unrolled (recordsFrom s at) ≡ []
+  list-end e = ap unrolled (at-end e)
+
+  pub list-short : cutAt s at ≡ Short → unrolled (recordsFrom s at) ≡ []
+  list-short e = ap unrolled (at-short e)
+
+  pub list-body : (n : ℕ) → cutAt s at ≡ Body n → unrolled (recordsFrom s at) ≡ judgeOf (bodyAt s at n) ∷ unrolled (recordsFrom s (at + 2 + n))
+  list-body n e = ap unrolled (at-body n e)
+
+-- ---- a clock record at a place: it is the next record, and the one after it begins seven bytes on
+pub record Stands (s : List ℕ) (at : ℕ) (c : Clocks) : Type 0 where
+  pub fits : at + 7 ≤ length s
+  pub some : 1 ≤ c .count
+  pub few : c .count ≤ 16384
+  pub is : recordsFrom s at ≡ item at (Clock (c .double) (c .divider) (c .count)) (recordsFrom s (at + 7))
+
+five-cut : (s : List ℕ) (at : ℕ) → at + 7 ≤ length s → word s at ≡ 5 → cutAt s at ≡ Body 5
+unfolding cutAt pick
+five-cut s at h e =
+    let here : at < length s = omega arith in
+    let two : 2 ≤ length s - at = omega arith in
+    let five : 5 ≤ length s - at - 2 = omega arith in
+    rw (lt-leb (length s) at here, le-ltb (length s - at) 2 two, e, le-ltb (length s - at - 2) 5 five)
+
+pub clocks-stand : (s : List ℕ) (at : ℕ) → clocksAt s at .right ≡ true → Stands s at (clocksAt s at)
+unfolding clocksAt pick
+clocks-stand s at = go (leb (at + 7) (length s)) (eqb (word s at) 5) refl refl
+  where
+    body : List ℕ
+    body = bodyAt s at 5
+
+    next : at + 2 + 5 ≡ at + 7
+    next = omega arith
+
+    go : (a b : Bool) → leb (at + 7) (length s) ≡ a → eqb (word s at) 5 ≡ b
+        → let c = pick a (pick b (clocksOf (judgeOf body)) noClocks) noClocks in c .right ≡ true → Stands s at c
+    go true true x y e =
+        let fits = leb-true (at + 7) (length s) x in
+        let few = clocks-few body e in
+        record {
+          fits = fits;
+          some = few .0;
+          few = few .1;
+          is =
+              at-body s at 5 (five-cut s at fits (eqb-true (word s at) 5 y))
+              ∙ ap₂ (λ (r : Record) (n : ℕ). item at r (recordsFrom s n)) (clock-is (judgeOf body) e) next;
+        }
+    go true false x y e = let z : _≡_ {A = ℕ} 0 1 = cc in absurd (omega arith)
+    go false b x y e = let z : _≡_ {A = ℕ} 0 1 = cc in absurd (omega arith)

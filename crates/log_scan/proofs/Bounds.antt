@@ -1,0 +1,189 @@
+-- The sums over a log's records are small: each record takes two bytes and more, and asks for no more than 16,384 calls. Assumes nothing.
+use Prim.Native.Nat.{ℕ, zero, suc, _+_, _-_, _*_, _^_, _≤_, _<_}
+use mathlib.Core.Path.{_≡_, refl}
+use mathlib.Core.List.{List, [], _∷_}
+use mathlib.Core.Bool.{Bool, true, false, _&&_}
+use native.Mathlib.Nat.{mul-le-mul-left, mul-add, mul-one, le-trans, le-refl, le-of-lt}
+use native.Mathlib.Omega.{arith}
+use borrow.Author.Tests.{leb-true, leb-false, ltb-false}
+use lib.ListN.{length, getD}
+use lib.Dec.{leb, ltb}
+use Rattle.ground.specs.Pick.{pick}
+use Rattle.ground.proofs.Cases.{pick-holds, both-ways, and-right}
+use Rattle.log_records.specs.declared.judge.Record.{Record}
+use Rattle.log_records.specs.declared.judge.Record.the-variants.{Write, Read, Clock, Pcm, Wrong}
+use Rattle.log_records.specs.declared.cut.Cut.{Cut}
+use Rattle.log_records.specs.declared.cut.Cut.the-variants.{End, Short, Body}
+use Rattle.log_scan.specs.declared.scan.Mark.{Mark}
+use Rattle.log_scan.specs.declared.scan.Mark.the-variants.{Clear, At}
+use Rattle.log_scan.specs.declared.answer.Played.{Played}
+use Rattle.log_scan.specs.declared.answer.Played.the-variants.{Done, TooLong, BadStart, WrongRecord, TooShort}
+use Rattle.log_records.specs.Judge.{word, writeOf, readOf, clockOf, pcmOf, judgeOf}
+use Rattle.log_records.specs.Records.{Parsed, cutAt, bodyAt, grow, parse, recordsFrom, unrolled, listed}
+use Rattle.log_scan.specs.Sums.{asks, halvesOf, readsOf, sumOf}
+use Rattle.log_scan.specs.Scan.{orMark, wrongMark, wrongIn, summed}
+use Rattle.log_scan.specs.Answers.{refusalOf, returnedOf, bytesBy, orWrong, scannedAs, scannedOf, withinRoom, Small}
+use Rattle.clocks.proofs.Totals.{frames-le}
+use Rattle.log_records.proofs.Framing.{body-fits}
+
+pub record Low (r : Record) : Type 0 where
+  pub calls : asks r ≤ 16384
+  pub halves : halvesOf r ≤ 32768
+  pub reads : readsOf r ≤ 3
+
+nothing-low : (r : Record) → asks r ≡ 0 → halvesOf r ≡ 0 → readsOf r ≤ 3 → Low r
+nothing-low r a h l = record { calls = omega arith; halves = omega arith; reads = l }
+
+clock-low : (d : Bool) (v k : ℕ) → k ≤ 16384 → Low (Clock d v k)
+clock-low true v k h = record { calls = h; halves = omega arith; reads = omega arith }
+clock-low false v k h = record { calls = h; halves = omega arith; reads = omega arith }
+
+wrong-low : Low Wrong
+wrong-low = nothing-low Wrong refl refl (omega arith)
+
+-- a count that the judge takes
+count-le : (speed count : ℕ) → (leb speed 1 && (leb 1 count && leb count 16384)) ≡ true → count ≤ 16384
+count-le speed count e = leb-true _ _ (and-right (leb 1 count) (leb count 16384) (and-right (leb speed 1) (leb 1 count && leb count 16384) e))
+
+-- what the judge says of any body
+pub judged-low : (s : List ℕ) → Low (judgeOf s)
+unfolding judgeOf writeOf readOf clockOf pcmOf
+judged-low s =
+    both-ways Low _ wrong-low
+    (both-ways Low _ (both-ways Low _ (both-ways Low _ (nothing-low _ refl refl (omega arith)) wrong-low) wrong-low)
+    (both-ways Low _ (both-ways Low _ (both-ways Low _ (nothing-low _ refl refl (omega arith)) wrong-low) wrong-low)
+    (both-ways Low _
+    (both-ways Low _
+    (pick-holds Low _ _ _ (λ e. clock-low _ _ _ (count-le (getD s 1 0) (word s 3) e)) (λ _. wrong-low))
+    wrong-low)
+    (both-ways Low _ (both-ways Low _ (nothing-low _ refl refl (omega arith)) wrong-low) wrong-low))))
+
+-- a sum over the records from a place on
+module _ (f : Record → ℕ) (m : ℕ) (low : (s : List ℕ) → f (judgeOf s) ≤ m) where
+  more : (x y a b : ℕ) → x ≤ m → y ≤ m * b → b + 1 ≤ a → x + y ≤ m * a
+  more x y a b p q h =
+      let k : m * (b + 1) ≤ m * a = mul-le-mul-left m h in
+      let e : m * (b + 1) ≡ m * b + m * 1 = mul-add m b 1 in
+      let i : m * 1 ≡ m = mul-one m in
+      omega arith
+
+  -- by what stands at the place, and what is known of the rest
+  first-low : (s : List ℕ) (at : ℕ) (rest : ℕ → Parsed) (k : Cut) → cutAt s at ≡ k
+      → ((n : ℕ) → sumOf f (unrolled (rest (at + 2 + n))) ≤ m * (length s - (at + 2 + n))) → sumOf f (unrolled (grow s at rest k)) ≤ m * (length s - at)
+  unfolding sumOf
+  first-low s at rest End e h = omega arith
+  first-low s at rest Short e h = omega arith
+  first-low s at rest (Body k) e h =
+      let b = body-fits s at k e in
+      more _ _ (length s - at) (length s - (at + 2 + k)) (low (bodyAt s at k)) (h k) (omega arith)
+
+  sum-low : (n : ℕ) (s : List ℕ) (at : ℕ) → sumOf f (unrolled (parse n s at)) ≤ m * (length s - at)
+  unfolding parse sumOf
+  sum-low zero s at = omega arith
+  sum-low (suc n) s at = first-low s at (parse n s) (cutAt s at) refl (λ k. sum-low n s (at + 2 + k))
+
+  pub records-low : (s : List ℕ) → length s ≤ 65536 → sumOf f (listed s) ≤ m * 65536
+  unfolding recordsFrom
+  records-low s h = le-trans (sum-low (length s) s 2) (mul-le-mul-left m (less (length s) h))
+    where
+      less : (n : ℕ) → n ≤ 65536 → n - 2 ≤ 65536
+      less n k = omega arith
+
+each-one : (l : List Record) → sumOf (λ r. 1) l ≡ length l
+unfolding sumOf
+each-one [] = refl
+each-one (r ∷ l) = omega (arith, each-one l)
+
+-- the sums of a log that is not too long
+module _ (s : List ℕ) (h : length s ≤ 65536) where
+  pub calls-low : sumOf asks (listed s) ≤ 1073741824
+  calls-low = records-low asks 16384 (λ b. judged-low b .calls) s h
+
+  pub halves-low : sumOf halvesOf (listed s) ≤ 2147483648
+  halves-low = records-low halvesOf 32768 (λ b. judged-low b .halves) s h
+
+  pub reads-low : sumOf readsOf (listed s) ≤ 196608
+  reads-low = records-low readsOf 3 (λ b. judged-low b .reads) s h
+
+  pub count-low : length (listed s) ≤ 65536
+  count-low = rw (← each-one (listed s)) (records-low (λ r. 1) 1 (λ b. le-refl 1) s h)
+
+  bytes-low : bytesBy (summed (listed s)) < 281474976710656
+  bytes-low = let f = frames-le (sumOf halvesOf (listed s)) in omega (arith, halves-low, reads-low)
+
+  pub small : Small (summed (listed s))
+  small = record { halves = omega (arith, halves-low); reads = omega (arith, reads-low) }
+
+-- ---- the number returned stays in 48 bits
+
+-- where a record is cut short, the log has not ended
+short-inside : (s : List ℕ) (at : ℕ) → cutAt s at ≡ Short → at ≤ length s
+unfolding pick cutAt
+short-inside s at e = go (leb (length s) at) refl e
+  where
+    go : (a : Bool) → leb (length s) at ≡ a → pick a End (pick (ltb (length s - at) 2) Short (pick (ltb (length s - at - 2) (word s at)) Short (Body (word s at)))) ≡ Short → at ≤ length s
+    go true x h = let f : _≡_ {A = ℕ} 0 1 = cc in omega arith
+    go false x h = le-of-lt (leb-false (length s) at x)
+
+-- a mark lies within the log
+abbrev Inside : ℕ → Mark → Type 0
+Inside top Clear = 0 ≤ top
+Inside top (At p) = p ≤ top
+
+or-inside : (top : ℕ) (a b : Mark) → Inside top a → Inside top b → Inside top (orMark a b)
+or-inside top Clear b p q = q
+or-inside top (At p) b h q = h
+
+mark-inside : (top place : ℕ) (r : Record) → place ≤ top → Inside top (wrongMark place r)
+mark-inside top place (Write addr value) h = omega arith
+mark-inside top place (Read addr) h = omega arith
+mark-inside top place (Clock d v k) h = omega arith
+mark-inside top place Pcm h = omega arith
+mark-inside top place Wrong h = h
+
+first-inside : (s : List ℕ) (at : ℕ) (rest : ℕ → Parsed) (k : Cut) → cutAt s at ≡ k → ((n : ℕ) → Inside (length s) (wrongIn (rest (at + 2 + n)))) → Inside (length s) (wrongIn (grow s at rest k))
+unfolding wrongIn
+first-inside s at rest End e h = omega arith
+first-inside s at rest Short e h = short-inside s at e
+first-inside s at rest (Body n) e h =
+    let b = body-fits s at n e in
+    or-inside (length s) (wrongMark at (judgeOf (bodyAt s at n))) (wrongIn (rest (at + 2 + n))) (mark-inside (length s) at (judgeOf (bodyAt s at n)) (omega arith)) (h n)
+
+parsed-inside : (n : ℕ) (s : List ℕ) (at : ℕ) → Inside (length s) (wrongIn (parse n s at))
+unfolding parse wrongIn
+parsed-inside zero s at = omega arith
+parsed-inside (suc n) s at = first-inside s at (parse n s) (cutAt s at) refl (λ k. parsed-inside n s (at + 2 + k))
+
+-- whatever the answer is made from
+abbrev pub Packs : Played → Type 0
+Packs a = returnedOf a < 2 ^ 48
+
+room-packs : (room : ℕ) (a : Played) → Packs a → Packs (withinRoom room a)
+unfolding withinRoom
+room-packs room (Done w f k r) h = both-ways Packs _ h h
+room-packs room TooLong h = h
+room-packs room BadStart h = h
+room-packs room (WrongRecord p) h = h
+room-packs room (TooShort n) h = h
+
+wrong-packs : (top : ℕ) (m : Mark) (a : Played) → top ≤ 65536 → Inside top m → Packs a → Packs (orWrong m a)
+wrong-packs top Clear a t i h = h
+wrong-packs top (At p) a t i h = omega arith
+
+scanned-packs : (s : List ℕ) → Packs (scannedOf s)
+unfolding scannedAs recordsFrom
+scanned-packs s =
+    pick-holds Packs _ _ _ (λ _. omega arith)
+    (λ e.
+    let h : length s ≤ 65536 = ltb-false 65536 (length s) e in
+    both-ways Packs _ (omega arith) (wrong-packs (length s) (wrongIn (recordsFrom s 2)) _ h (parsed-inside (length s) s 2) (bytes-low s h)))
+
+pub answer-packs : (room : ℕ) (s : List ℕ) → Packs (withinRoom room (scannedOf s))
+answer-packs room s = room-packs room (scannedOf s) (scanned-packs s)
+
+pub refusal-le : (a : Played) → refusalOf a ≤ 6
+refusal-le (Done w f k r) = omega arith
+refusal-le TooLong = omega arith
+refusal-le BadStart = omega arith
+refusal-le (WrongRecord p) = omega arith
+refusal-le (TooShort n) = omega arith

@@ -1,0 +1,104 @@
+-- What a row of records has is what its first record has, joined to what the others have: so the scan may join as it goes. Assumes nothing.
+use Prim.Native.Nat.{ℕ, suc, _+_, _≤_, _<_}
+use mathlib.Core.Path.{_≡_, refl, sym, _∙_, ap}
+use mathlib.Core.List.{List}
+use native.Mathlib.Omega.{arith}
+use native.Mathlib.Nat.{add-assoc, add-zero, zero-add}
+use lib.ListN.{length}
+use Rattle.log_records.specs.declared.judge.Record.{Record}
+use Rattle.log_records.specs.declared.cut.Cut.the-variants.{End, Short}
+use Rattle.log_scan.specs.declared.scan.Mark.{Mark}
+use Rattle.log_scan.specs.declared.scan.Mark.the-variants.{Clear, At}
+use Rattle.log_scan.specs.declared.scan.Found.{Found}
+use Rattle.log_records.specs.Records.{Parsed, item, cutAt, recordsFrom, unrolled}
+use Rattle.log_scan.specs.Sums.{sumOf}
+use Rattle.log_scan.specs.Scan.{Fits, orMark, wrongIn, both, nothing, foundIn, foundAll}
+use Rattle.log_records.proofs.Framing.{at-end, at-short}
+use Rattle.log_scan.proofs.Bounds.{calls-low, halves-low, reads-low, count-low}
+
+or-assoc : (a b c : Mark) → orMark (orMark a b) c ≡ orMark a (orMark b c)
+or-assoc Clear b c = refl
+or-assoc (At p) b c = refl
+
+or-none : (a : Mark) → orMark a Clear ≡ a
+or-none Clear = refl
+or-none (At p) = refl
+
+both-assoc : (a b c : Found) → both (both a b) c ≡ both a (both b c)
+both-assoc a b c =
+    rw (
+      or-assoc (a .wrong) (b .wrong) (c .wrong),
+      add-assoc (a .sums .records) (b .sums .records) (c .sums .records),
+      add-assoc (a .sums .calls) (b .sums .calls) (c .sums .calls),
+      add-assoc (a .sums .halves) (b .sums .halves) (c .sums .halves),
+      add-assoc (a .sums .reads) (b .sums .reads) (c .sums .reads),
+    )
+
+both-none : (a : Found) → both a (nothing Clear) ≡ a
+both-none a = rw (or-none (a .wrong), add-zero (a .sums .records), add-zero (a .sums .calls), add-zero (a .sums .halves), add-zero (a .sums .reads))
+
+none-both : (a : Found) → both (nothing Clear) a ≡ a
+none-both a = rw (zero-add (a .sums .records), zero-add (a .sums .calls), zero-add (a .sums .halves), zero-add (a .sums .reads))
+
+one-more : (n : ℕ) → 1 + n ≡ suc n
+one-more n = omega arith
+
+-- THE LAW
+found-item : (p : ℕ) (r : Record) (rest : Parsed) → foundAll (item p r rest) ≡ both (foundIn p r) (foundAll rest)
+unfolding wrongIn sumOf
+found-item p r rest = rw (one-more (length (unrolled rest)))
+
+-- the loop's invariant: what was found, joined to what the rest have, is what all have
+pub record Going (s : List ℕ) (at : ℕ) (t : Found) : Type 0 where
+  pub state : both t (foundAll (recordsFrom s at)) ≡ foundAll (recordsFrom s 2)
+  pub inside : at ≤ length s + 2
+
+pub begun : (s : List ℕ) → Going s 2 (nothing Clear)
+begun s = record { state = none-both (foundAll (recordsFrom s 2)); inside = omega arith }
+
+module _ {s : List ℕ} {at : ℕ} {t : Found} (g : Going s at t) where
+  pub ended : cutAt s at ≡ End → t ≡ foundAll (recordsFrom s 2)
+  unfolding wrongIn sumOf
+  ended e = sym (both-none t) ∙ rw (at-end s at e) at (g .state)
+
+  -- a part of a sum that is not above 2 ^ 32
+  part : (a c d top : ℕ) → a + c ≡ d → d ≤ top → top ≤ 4294967296 → a < 18446744073709551616
+  part a c d top p q r = omega arith
+
+  -- joining nothing adds nothing
+  pub fits-none : (w : Mark) → length s ≤ 65536 → Fits t (nothing w)
+  fits-none w h =
+      let rest = foundAll (recordsFrom s at) in
+      record {
+        records = rw (add-zero (t .sums .records)) (part _ (rest .sums .records) _ _ (ap (λ (x : Found). x .sums .records) (g .state)) (count-low s h) (omega arith));
+        calls = rw (add-zero (t .sums .calls)) (part _ (rest .sums .calls) _ _ (ap (λ (x : Found). x .sums .calls) (g .state)) (calls-low s h) (omega arith));
+        halves = rw (add-zero (t .sums .halves)) (part _ (rest .sums .halves) _ _ (ap (λ (x : Found). x .sums .halves) (g .state)) (halves-low s h) (omega arith));
+        reads = rw (add-zero (t .sums .reads)) (part _ (rest .sums .reads) _ _ (ap (λ (x : Found). x .sums .reads) (g .state)) (reads-low s h) (omega arith));
+      }
+
+  pub cut-short : cutAt s at ≡ Short → both t (nothing (At at)) ≡ foundAll (recordsFrom s 2)
+  unfolding wrongIn sumOf
+  cut-short e = rw (at-short s at e) at (g .state)
+
+  -- the next record, and where the one after it begins
+  module _ (r : Record) (next : ℕ) (is : recordsFrom s at ≡ item at r (recordsFrom s next)) where
+    abbrev f : Found
+    f = foundIn at r
+
+    abbrev rest : Found
+    rest = foundAll (recordsFrom s next)
+
+    state : both (both t f) rest ≡ foundAll (recordsFrom s 2)
+    state = both-assoc t f rest ∙ ap (both t) (sym (found-item at r (recordsFrom s next))) ∙ rw is at (g .state)
+
+    pub turn : next ≤ length s → Going s next (both t f)
+    turn h = record { state = state; inside = omega arith }
+
+    pub fits : length s ≤ 65536 → Fits t f
+    fits h =
+        record {
+          records = part _ (rest .sums .records) _ _ (ap (λ (x : Found). x .sums .records) state) (count-low s h) (omega arith);
+          calls = part _ (rest .sums .calls) _ _ (ap (λ (x : Found). x .sums .calls) state) (calls-low s h) (omega arith);
+          halves = part _ (rest .sums .halves) _ _ (ap (λ (x : Found). x .sums .halves) state) (halves-low s h) (omega arith);
+          reads = part _ (rest .sums .reads) _ _ (ap (λ (x : Found). x .sums .reads) state) (reads-low s h) (omega arith);
+        }

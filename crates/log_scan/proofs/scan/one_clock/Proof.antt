@@ -1,0 +1,20 @@
+-- A count of 16 bits, once or twice. Assumes nothing.
+use borrow.Author.Needs.{needs}
+use native.Mathlib.Omega.{arith}
+use Prim.Native.Nat.{ℕ, _*_, _≤_, _<_}
+use native.Mathlib.Nat.{mul-le-mul, le-of-lt}
+use Rattle.log_scan.proofs.scan.one_clock.Statement.{statement}
+use Rattle.log_scan.proofs.scan.one_clock.Tie as tie
+
+once-or-twice : (k h : ℕ) → h ≤ 2 → k < 65536 → k * h < 18446744073709551616
+once-or-twice k h p q = let m : k * h ≤ 65536 * 2 = mul-le-mul (le-of-lt q) p in omega arith
+
+pub one-clock-spec : {M : Type 1} → statement M
+one-clock-spec =
+    tie.close
+    (tie.spec
+    (λ c κs. search needs)
+    (λ c. search needs)
+    (λ c. let m = once-or-twice (c .before .args .count) (c .half-clocks .result) (c .half-clocks .ensures .1) (omega (arith, c .before .fits .count)) in omega (arith, m))
+    (λ c κs. search needs)
+    (λ c. rw (c .one .ensures, c .before .half-clocks .ensures .0)))
