@@ -14,7 +14,8 @@ slice-relend-prefix-play-log c =
 
 slice-aggregate-play-log : tie.Need-slice-aggregate-play-log
 slice-aggregate-play-log c =
-    prefix-counts _ _ (c .before .if1 .taken)
+    let if1 = c .before .if1 in
+    prefix-counts _ _ (if1 .taken)
 
 play-log-requires : tie.Need-play-log-requires
 play-log-requires c κs =

@@ -24,7 +24,8 @@ sub-if1 c =
 
 same-length : tie.Need-same-length Inv-loop μ-loop
 same-length c =
-    c .before .before .loop .inv
+    let loop = c .before .before .loop in
+    loop .inv
 
 returns : tie.Need-returns Inv-loop μ-loop
 returns c =
@@ -60,7 +61,8 @@ sub-if2 c =
 
 same-length-2 : tie.Need-same-length-2 Inv-loop μ-loop
 same-length-2 c =
-    c .before .before .before .before .before .loop .inv
+    let loop = c .before .before .before .before .before .loop in
+    loop .inv
 
 returns-2 : tie.Need-returns-2 Inv-loop μ-loop
 returns-2 c =
@@ -92,11 +94,14 @@ loop-less c =
 
 loop-again : tie.Need-loop-again Inv-loop μ-loop
 loop-again c =
-    c .before .before .show-case .kept .1 .1 .0 ∙ c .before .before .before .before .before .before .before .before .before .before .loop .inv
+    let show-case = c .before .before .show-case in
+    let loop = c .before .before .before .before .before .before .before .before .before .before .loop in
+    show-case .kept .1 .1 .0 ∙ loop .inv
 
 same-length-3 : tie.Need-same-length-3 Inv-loop μ-loop
 same-length-3 c =
-    c .before .loop .inv
+    let loop = c .before .loop in
+    loop .inv
 
 returns-3 : tie.Need-returns-3 Inv-loop μ-loop
 returns-3 c =

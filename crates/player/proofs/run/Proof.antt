@@ -19,7 +19,10 @@ enum-known-answer c =
 
 shared-slice-read-show-log : tie.Need-shared-slice-read-show-log
 shared-slice-read-show-log c =
-    let d : isDone (scannedOf (now (c .before .before .before .before .before .before .args .log))) ≡ true = rw (← (c .before .before .before .before .scan .ensures), c .before .before .answer .given .1) in let l = scanned-long _ (now (c .before .before .before .before .before .before .args .log)) d in omega (arith, l)
+    let answer = c .before .before .answer in
+    let scan = c .before .before .before .before .scan in
+    let args = c .before .before .before .before .before .before .args in
+    let d : isDone (scannedOf (now (args .log))) ≡ true = rw (← (scan .ensures), answer .given .1) in let l = scanned-long _ (now (args .log)) d in omega (arith, l)
 
 show-log-requires : tie.Need-show-log-requires
 show-log-requires c κs =

@@ -14,7 +14,8 @@ abbrev μ-loop : tie.MeasureT-loop
 
 loop-holds : tie.Need-loop-holds Inv-loop μ-loop
 loop-holds c =
-    calling (c .before .before .pre .0) (c .before .before .pre .1)
+    let pre = c .before .before .pre in
+    calling (pre .0) (pre .1)
 
 next-stop-requires : tie.Need-next-stop-requires Inv-loop μ-loop
 next-stop-requires c κs =
@@ -22,27 +23,36 @@ next-stop-requires c κs =
 
 show-some-requires : tie.Need-show-some-requires Inv-loop μ-loop
 show-some-requires c κs =
-    (c .before .before .before .before .loop .inv .held, (c .before .before .next-stop .ensures .2, c .before .before .before .before .loop .inv .room))
+    let next-stop = c .before .before .next-stop in
+    let loop = c .before .before .before .before .loop in
+    (loop .inv .held, (next-stop .ensures .2, loop .inv .room))
 
 loop-less : tie.Need-loop-less Inv-loop μ-loop
 loop-less c =
-    omega (arith, c .before .before .before .before .before .before .before .next-stop .ensures .0, c .before .before .before .before .before .before .before .next-stop .ensures .1)
+    let next-stop = c .before .before .before .before .before .before .before .next-stop in
+    omega (arith, next-stop .ensures .0, next-stop .ensures .1)
 
 loop-again : tie.Need-loop-again Inv-loop μ-loop
 loop-again c =
-    rw (c .before .before .before .before .show-some .ensures) (call-on (c .before .before .before .before .before .before .before .before .before .loop .inv) (c .before .before .before .before .before .before .before .next-stop .result) _ _ (c .before .before .before .before .before .before .before .next-stop .ensures .0) (c .before .before .before .before .before .before .before .next-stop .ensures .1) (c .before .before .before .before .show-some .kept .1 .1 .1 .1 .1 .0) (c .before .before .before .before .show-some .kept .1 .1 .1 .1 .1 .1 .0))
+    let show-some = c .before .before .before .before .show-some in
+    let next-stop = c .before .before .before .before .before .before .before .next-stop in
+    let loop = c .before .before .before .before .before .before .before .before .before .loop in
+    rw (show-some .ensures) (call-on (loop .inv) (next-stop .result) _ _ (next-stop .ensures .0) (next-stop .ensures .1) (show-some .kept .1 .1 .1 .1 .1 .0) (show-some .kept .1 .1 .1 .1 .1 .1 .0))
 
 same-length : tie.Need-same-length Inv-loop μ-loop
 same-length c =
-    c .before .loop .inv .bytes-same
+    let loop = c .before .loop in
+    loop .inv .bytes-same
 
 same-length-2 : tie.Need-same-length-2 Inv-loop μ-loop
 same-length-2 c =
-    c .before .loop .inv .text-same
+    let loop = c .before .loop in
+    loop .inv .text-same
 
 returns : tie.Need-returns Inv-loop μ-loop
 returns c =
-    called-all (c .before .loop .inv) (c .loop-test .left)
+    let loop = c .before .loop in
+    called-all (loop .inv) (c .loop-test .left)
 
 pub show-clocks-spec : {M : Type 1} → statement M
 show-clocks-spec =

@@ -14,15 +14,21 @@ use Rattle.player.proofs.show_item.Tie as tie
 
 play-record-requires : tie.Need-play-record-requires
 play-record-requires c κs =
-    (c .before .before .before .before .before .pre .0 .0, (c .before .before .before .before .before .pre .0 .1, (rw (zero-add (length (bytesOf (judgeOf (now (c .before .before .before .before .before .args .body))) (c .before .before .before .before .before .args .s .apu)))) (c .before .before .before .before .before .pre .1))))
+    let args = c .before .before .before .before .before .args in
+    let pre = c .before .before .before .before .before .pre in
+    (pre .0 .0, (pre .0 .1, (rw (zero-add (length (bytesOf (judgeOf (now (args .body))) (args .s .apu)))) (pre .1))))
 
 slice-reshare-prefix-put-items : tie.Need-slice-reshare-prefix-put-items
 slice-reshare-prefix-put-items c =
-    let e = ap (λ (x : Play). x .at) (c .before .before .before .play-record .ensures .0) in let r = c .before .before .before .before .before .before .before .before .before .pre .1 in let k = c .before .before .before .play-record .kept .1 .1 .0 in omega (arith, e, r, k)
+    let play-record = c .before .before .before .play-record in
+    let pre = c .before .before .before .before .before .before .before .before .before .pre in
+    let e = ap (λ (x : Play). x .at) (play-record .ensures .0) in let r = pre .1 in let k = play-record .kept .1 .1 .0 in omega (arith, e, r, k)
 
 slice-aggregate-put-items : tie.Need-slice-aggregate-put-items
 slice-aggregate-put-items c =
-    let e = ap (λ (x : Play). x .at) (c .before .before .before .before .play-record .ensures .0) in let r = c .before .before .before .before .before .before .before .before .before .before .pre .1 in let k = c .before .before .before .before .play-record .kept .1 .1 .0 in prefix-counts _ _ (omega (arith, e, r, k))
+    let play-record = c .before .before .before .before .play-record in
+    let pre = c .before .before .before .before .before .before .before .before .before .before .pre in
+    let e = ap (λ (x : Play). x .at) (play-record .ensures .0) in let r = pre .1 in let k = play-record .kept .1 .1 .0 in prefix-counts _ _ (omega (arith, e, r, k))
 
 put-items-requires : tie.Need-put-items-requires
 put-items-requires c κs =
@@ -30,15 +36,18 @@ put-items-requires c κs =
 
 same-length : tie.Need-same-length
 same-length c =
-    c .before .before .before .before .before .before .before .before .play-record .kept .1 .1 .0
+    let play-record = c .before .before .before .before .before .before .before .before .play-record in
+    play-record .kept .1 .1 .0
 
 same-length-2 : tie.Need-same-length-2
 same-length-2 c =
-    c .before .before .put-items .kept .1 .1 .0
+    let put-items = c .before .before .put-items in
+    put-items .kept .1 .1 .0
 
 returns : tie.Need-returns
 returns c =
-    (ap (λ (x : Play). x .apu) (c .before .before .before .before .before .before .before .before .play-record .ensures .0), c .before .before .before .before .before .before .before .before .play-record .ensures .1 .1)
+    let play-record = c .before .before .before .before .before .before .before .before .play-record in
+    (ap (λ (x : Play). x .apu) (play-record .ensures .0), play-record .ensures .1 .1)
 
 pub show-item-spec : {M : Type 1} → statement M
 show-item-spec =

@@ -27,7 +27,9 @@ slice-aggregate-show-list-2 c =
 
 show-list-requires : tie.Need-show-list-requires
 show-list-requires c κs =
-    (rw (c .before .before .start .ensures) (start-held _, start-floats _), sym (c .before .before .before .before .large-buffer .ensures))
+    let start = c .before .before .start in
+    let large-buffer = c .before .before .before .before .large-buffer in
+    (rw (start .ensures) (start-held _, start-floats _), sym (large-buffer .ensures))
 
 slice-aggregate-flush : tie.Need-slice-aggregate-flush
 slice-aggregate-flush c =

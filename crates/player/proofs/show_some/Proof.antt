@@ -11,15 +11,23 @@ use Rattle.player.proofs.show_some.Tie as tie
 
 play-clocks-requires : tie.Need-play-clocks-requires
 play-clocks-requires c κs =
-    (c .before .before .before .before .pre .0 .0, (c .before .before .before .before .pre .0 .1, (omega (arith, c .before .before .before .before .pre .1 .0), some-room (c .before .before .before .before .args .double) (c .before .before .before .before .args .divider) (c .before .before .before .before .args .from) (c .before .before .before .before .args .to) (c .before .before .before .before .args .s .apu) (now (c .before .before .before .before .args .bytes)) (c .before .before .before .before .pre .1 .0) (c .before .before .before .before .pre .1 .1))))
+    let args = c .before .before .before .before .args in
+    let pre = c .before .before .before .before .pre in
+    (pre .0 .0, (pre .0 .1, (omega (arith, pre .1 .0), some-room (args .double) (args .divider) (args .from) (args .to) (args .s .apu) (now (args .bytes)) (pre .1 .0) (pre .1 .1))))
 
 slice-reshare-prefix-put-items : tie.Need-slice-reshare-prefix-put-items
 slice-reshare-prefix-put-items c =
-    let e = ap (λ (x : Play). x .at) (c .before .before .before .play-clocks .ensures .0) in let r = some-room (c .before .before .before .before .before .before .before .before .args .double) (c .before .before .before .before .before .before .before .before .args .divider) (c .before .before .before .before .before .before .before .before .args .from) (c .before .before .before .before .before .before .before .before .args .to) (c .before .before .before .before .before .before .before .before .args .s .apu) (now (c .before .before .before .before .before .before .before .before .args .bytes)) (c .before .before .before .before .before .before .before .before .pre .1 .0) (c .before .before .before .before .before .before .before .before .pre .1 .1) in let k = c .before .before .before .play-clocks .kept .1 .1 .1 .1 .1 .0 in omega (arith, e, r, k)
+    let play-clocks = c .before .before .before .play-clocks in
+    let args = c .before .before .before .before .before .before .before .before .args in
+    let pre = c .before .before .before .before .before .before .before .before .pre in
+    let e = ap (λ (x : Play). x .at) (play-clocks .ensures .0) in let r = some-room (args .double) (args .divider) (args .from) (args .to) (args .s .apu) (now (args .bytes)) (pre .1 .0) (pre .1 .1) in let k = play-clocks .kept .1 .1 .1 .1 .1 .0 in omega (arith, e, r, k)
 
 slice-aggregate-put-items : tie.Need-slice-aggregate-put-items
 slice-aggregate-put-items c =
-    let e = ap (λ (x : Play). x .at) (c .before .before .before .before .play-clocks .ensures .0) in let r = some-room (c .before .before .before .before .before .before .before .before .before .args .double) (c .before .before .before .before .before .before .before .before .before .args .divider) (c .before .before .before .before .before .before .before .before .before .args .from) (c .before .before .before .before .before .before .before .before .before .args .to) (c .before .before .before .before .before .before .before .before .before .args .s .apu) (now (c .before .before .before .before .before .before .before .before .before .args .bytes)) (c .before .before .before .before .before .before .before .before .before .pre .1 .0) (c .before .before .before .before .before .before .before .before .before .pre .1 .1) in let k = c .before .before .before .before .play-clocks .kept .1 .1 .1 .1 .1 .0 in prefix-counts _ _ (omega (arith, e, r, k))
+    let play-clocks = c .before .before .before .before .play-clocks in
+    let args = c .before .before .before .before .before .before .before .before .before .args in
+    let pre = c .before .before .before .before .before .before .before .before .before .pre in
+    let e = ap (λ (x : Play). x .at) (play-clocks .ensures .0) in let r = some-room (args .double) (args .divider) (args .from) (args .to) (args .s .apu) (now (args .bytes)) (pre .1 .0) (pre .1 .1) in let k = play-clocks .kept .1 .1 .1 .1 .1 .0 in prefix-counts _ _ (omega (arith, e, r, k))
 
 put-items-requires : tie.Need-put-items-requires
 put-items-requires c κs =
@@ -27,15 +35,18 @@ put-items-requires c κs =
 
 same-length : tie.Need-same-length
 same-length c =
-    c .before .before .before .before .before .before .before .before .play-clocks .kept .1 .1 .1 .1 .1 .0
+    let play-clocks = c .before .before .before .before .before .before .before .before .play-clocks in
+    play-clocks .kept .1 .1 .1 .1 .1 .0
 
 same-length-2 : tie.Need-same-length-2
 same-length-2 c =
-    c .before .before .put-items .kept .1 .1 .0
+    let put-items = c .before .before .put-items in
+    put-items .kept .1 .1 .0
 
 returns : tie.Need-returns
 returns c =
-    ap (λ (x : Play). x .apu) (c .before .before .before .before .before .before .before .before .play-clocks .ensures .0)
+    let play-clocks = c .before .before .before .before .before .before .before .before .play-clocks in
+    ap (λ (x : Play). x .apu) (play-clocks .ensures .0)
 
 pub show-some-spec : {M : Type 1} → statement M
 show-some-spec =

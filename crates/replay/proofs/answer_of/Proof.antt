@@ -6,7 +6,8 @@ use Rattle.replay.proofs.answer_of.Tie as tie
 
 slice-aggregate-play-log : tie.Need-slice-aggregate-play-log
 slice-aggregate-play-log c =
-    prefix-counts _ _ (c .before .before .if1 .taken)
+    let if1 = c .before .before .if1 in
+    prefix-counts _ _ (if1 .taken)
 
 slice-relend-prefix-play-log : tie.Need-slice-relend-prefix-play-log
 slice-relend-prefix-play-log c =
@@ -14,7 +15,8 @@ slice-relend-prefix-play-log c =
 
 slice-aggregate-play-log-2 : tie.Need-slice-aggregate-play-log-2
 slice-aggregate-play-log-2 c =
-    prefix-counts _ _ (c .before .before .if2 .taken)
+    let if2 = c .before .before .if2 in
+    prefix-counts _ _ (if2 .taken)
 
 play-log-requires : tie.Need-play-log-requires
 play-log-requires c κs =

@@ -6,7 +6,8 @@ use Rattle.replay.proofs.print_name.Tie as tie
 
 slice-aggregate-write-all : tie.Need-slice-aggregate-write-all
 slice-aggregate-write-all c =
-    prefix-counts _ _ (c .before .if1 .taken)
+    let if1 = c .before .if1 in
+    prefix-counts _ _ (if1 .taken)
 
 write-all-requires : tie.Need-write-all-requires
 write-all-requires c κs =

@@ -10,7 +10,8 @@ slice-relend-prefix-read-full c =
 
 slice-aggregate-read-full : tie.Need-slice-aggregate-read-full
 slice-aggregate-read-full c =
-    prefix-counts _ _ (c .before .if1 .taken)
+    let if1 = c .before .if1 in
+    prefix-counts _ _ (if1 .taken)
 
 read-full-requires : tie.Need-read-full-requires
 read-full-requires c κs =

@@ -26,19 +26,23 @@ loop-holds c =
 
 same-length : tie.Need-same-length Inv-loop μ-loop
 same-length c =
-    c .before .before .before .loop .inv .heads
+    let loop = c .before .before .before .loop in
+    loop .inv .heads
 
 same-length-2 : tie.Need-same-length-2 Inv-loop μ-loop
 same-length-2 c =
-    c .before .before .before .loop .inv .logs
+    let loop = c .before .before .before .loop in
+    loop .inv .logs
 
 same-length-3 : tie.Need-same-length-3 Inv-loop μ-loop
 same-length-3 c =
-    c .before .before .before .loop .inv .wants
+    let loop = c .before .before .before .loop in
+    loop .inv .wants
 
 same-length-4 : tie.Need-same-length-4 Inv-loop μ-loop
 same-length-4 c =
-    c .before .before .before .loop .inv .outs
+    let loop = c .before .before .before .loop in
+    loop .inv .outs
 
 returns : tie.Need-returns Inv-loop μ-loop
 returns c =
@@ -58,23 +62,29 @@ loop-less c =
 
 loop-again : tie.Need-loop-again Inv-loop μ-loop
 loop-again c =
-    let k = c .before .before .before .before .before .before .before .before .step .kept .1 in let g = c .before .before .before .before .before .before .before .before .before .before .before .before .before .before .before .before .loop .inv in record { heads = k .0 ∙ g .heads; logs = k .1 .0 ∙ g .logs; wants = k .1 .1 .0 ∙ g .wants; outs = k .1 .1 .1 .0 ∙ g .outs }
+    let step = c .before .before .before .before .before .before .before .before .step in
+    let loop = c .before .before .before .before .before .before .before .before .before .before .before .before .before .before .before .before .loop in
+    let k = step .kept .1 in let g = loop .inv in record { heads = k .0 ∙ g .heads; logs = k .1 .0 ∙ g .logs; wants = k .1 .1 .0 ∙ g .wants; outs = k .1 .1 .1 .0 ∙ g .outs }
 
 same-length-5 : tie.Need-same-length-5 Inv-loop μ-loop
 same-length-5 c =
-    c .before .loop .inv .heads
+    let loop = c .before .loop in
+    loop .inv .heads
 
 same-length-6 : tie.Need-same-length-6 Inv-loop μ-loop
 same-length-6 c =
-    c .before .loop .inv .logs
+    let loop = c .before .loop in
+    loop .inv .logs
 
 same-length-7 : tie.Need-same-length-7 Inv-loop μ-loop
 same-length-7 c =
-    c .before .loop .inv .wants
+    let loop = c .before .loop in
+    loop .inv .wants
 
 same-length-8 : tie.Need-same-length-8 Inv-loop μ-loop
 same-length-8 c =
-    c .before .loop .inv .outs
+    let loop = c .before .loop in
+    loop .inv .outs
 
 returns-2 : tie.Need-returns-2 Inv-loop μ-loop
 returns-2 c =

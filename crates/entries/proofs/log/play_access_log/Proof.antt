@@ -12,15 +12,19 @@ play-log-requires c κs =
 
 pack-requires : tie.Need-pack-requires
 pack-requires c κs =
-    rw (c .before .before .play-log .ensures .0) (played-packs (now (c .before .before .before .before .before .before .args .log)) (length (now (c .before .before .before .before .before .before .args .out))))
+    let play-log = c .before .before .play-log in
+    let args = c .before .before .before .before .before .before .args in
+    rw (play-log .ensures .0) (played-packs (now (args .log)) (length (now (args .out))))
 
 same-length : tie.Need-same-length
 same-length c =
-    c .before .before .before .play-log .kept .1 .0
+    let play-log = c .before .before .before .play-log in
+    play-log .kept .1 .0
 
 returns : tie.Need-returns
 returns c =
-    (rw (c .pack .ensures, c .before .before .before .play-log .ensures .0), rw (c .before .before .before .play-log .ensures .0) at (c .before .before .before .play-log .ensures .1))
+    let play-log = c .before .before .before .play-log in
+    (rw (c .pack .ensures, play-log .ensures .0), rw (play-log .ensures .0) at (play-log .ensures .1))
 
 pub play-access-log-spec : {M : Type 1} → statement M
 play-access-log-spec =

@@ -16,19 +16,25 @@ put-counts-requires c κs =
 
 pack-requires : tie.Need-pack-requires
 pack-requires c κs =
-    rw (c .before .before .before .before .before .before .play-log .ensures .0) (played-packs (now (c .before .before .before .before .before .before .before .before .before .before .before .args .log)) (length (now (c .before .before .before .before .before .before .before .before .before .before .before .args .out))))
+    let play-log = c .before .before .before .before .before .before .play-log in
+    let args = c .before .before .before .before .before .before .before .before .before .before .before .args in
+    rw (play-log .ensures .0) (played-packs (now (args .log)) (length (now (args .out))))
 
 same-length : tie.Need-same-length
 same-length c =
-    c .before .before .before .before .before .before .before .play-log .kept .1 .0
+    let play-log = c .before .before .before .before .before .before .before .play-log in
+    play-log .kept .1 .0
 
 same-length-2 : tie.Need-same-length-2
 same-length-2 c =
-    c .before .before .before .put-counts .kept .1 .0
+    let put-counts = c .before .before .before .put-counts in
+    put-counts .kept .1 .0
 
 returns : tie.Need-returns
 returns c =
-    (rw (c .pack .ensures, c .before .before .before .before .before .before .before .play-log .ensures .0), (rw (c .before .before .before .before .before .before .before .play-log .ensures .0) at (c .before .before .before .before .before .before .before .play-log .ensures .1), rw (c .before .before .before .before .before .before .before .play-log .ensures .0) at (c .before .before .before .put-counts .ensures)))
+    let put-counts = c .before .before .before .put-counts in
+    let play-log = c .before .before .before .before .before .before .before .play-log in
+    (rw (c .pack .ensures, play-log .ensures .0), (rw (play-log .ensures .0) at (play-log .ensures .1), rw (play-log .ensures .0) at (put-counts .ensures)))
 
 pub play-access-log-counted-spec : {M : Type 1} → statement M
 play-access-log-counted-spec =

@@ -25,7 +25,14 @@ is-done-requires c κs =
 
 shared-slice-read-start : tie.Need-shared-slice-read-start
 shared-slice-read-start c =
-    let l = long (now (c .before .before .before .before .before .before .before .args .log)) (now (c .before .before .before .before .before .before .before .args .out)) (c .before .before .before .before .scan .result) (c .before .before .before .within .result) (c .before .before .before .before .scan .ensures) (c .before .before .before .within .ensures) (sym (c .before .before .is-done .ensures) ∙ c .before .if1 .taken) in omega (arith, l)
+    let if1 = c .before .if1 in
+    let is-done = c .before .before .is-done in
+    let within = c .before .before .before .within in
+    let scan = c .before .before .before .before .scan in
+    let args = c .before .before .before .before .before .before .before .args in
+    let done = sym (is-done .ensures) ∙ if1 .taken in
+    let l = long (now (args .log)) (now (args .out)) _ _ (scan .ensures) (within .ensures) done in
+    omega (arith, l)
 
 start-requires : tie.Need-start-requires
 start-requires c κs =
@@ -33,19 +40,42 @@ start-requires c κs =
 
 play-list-requires : tie.Need-play-list-requires
 play-list-requires c κs =
-    rw (c .before .start .ensures) (start-held _, (start-floats _, rw (zero-add (length (outputOf (now (c .before .before .before .before .before .before .before .before .before .args .log))))) (room (now (c .before .before .before .before .before .before .before .before .before .args .log)) (now (c .before .before .before .before .before .before .before .before .before .args .out)) (c .before .before .before .before .before .before .scan .result) (c .before .before .before .before .before .within .result) (c .before .before .before .before .before .before .scan .ensures) (c .before .before .before .before .before .within .ensures) (sym (c .before .before .before .before .is-done .ensures) ∙ c .before .before .before .if1 .taken))))
+    let start = c .before .start in
+    let if1 = c .before .before .before .if1 in
+    let is-done = c .before .before .before .before .is-done in
+    let within = c .before .before .before .before .before .within in
+    let scan = c .before .before .before .before .before .before .scan in
+    let args = c .before .before .before .before .before .before .before .before .before .args in
+    let done = sym (is-done .ensures) ∙ if1 .taken in
+    let fits = room (now (args .log)) (now (args .out)) _ _ (scan .ensures) (within .ensures) done in
+    rw (start .ensures) (start-held _, (start-floats _, rw (zero-add (length (outputOf (now (args .log))))) fits))
 
 same-length : tie.Need-same-length
 same-length c =
-    c .before .before .play-list .kept .1 .1 .0
+    let play-list = c .before .before .play-list in
+    play-list .kept .1 .1 .0
 
 returns : tie.Need-returns
 returns c =
-    (answer-is (now (c .before .before .before .before .before .before .before .before .before .before .before .before .args .log)) (now (c .before .before .before .before .before .before .before .before .before .before .before .before .args .out)) (c .before .before .before .before .before .before .before .before .before .scan .result) (c .before .before .before .before .before .before .before .before .within .result) (c .before .before .before .before .before .before .before .before .before .scan .ensures) (c .before .before .before .before .before .before .before .before .within .ensures), rw (c .before .before .before .before .start .ensures) at (c .before .before .play-list .ensures .1) ∙ put-out (now (c .before .before .before .before .before .before .before .before .before .before .before .before .args .log)) (now (c .before .before .before .before .before .before .before .before .before .before .before .before .args .out)) (c .before .before .before .before .before .before .before .before .before .scan .result) (c .before .before .before .before .before .before .before .before .within .result) (c .before .before .before .before .before .before .before .before .before .scan .ensures) (c .before .before .before .before .before .before .before .before .within .ensures) (sym (c .before .before .before .before .before .before .before .is-done .ensures) ∙ c .before .before .before .before .before .before .if1 .taken))
+    let play-list = c .before .before .play-list in
+    let start = c .before .before .before .before .start in
+    let if1 = c .before .before .before .before .before .before .if1 in
+    let is-done = c .before .before .before .before .before .before .before .is-done in
+    let within = c .before .before .before .before .before .before .before .before .within in
+    let scan = c .before .before .before .before .before .before .before .before .before .scan in
+    let args = c .before .before .before .before .before .before .before .before .before .before .before .before .args in
+    let done = sym (is-done .ensures) ∙ if1 .taken in
+    let put = put-out (now (args .log)) (now (args .out)) _ _ (scan .ensures) (within .ensures) done in
+    (answer-is (now (args .log)) (now (args .out)) _ _ (scan .ensures) (within .ensures), rw (start .ensures) at (play-list .ensures .1) ∙ put)
 
 returns-2 : tie.Need-returns-2
 returns-2 c =
-    (answer-is (now (c .before .before .before .before .before .before .args .log)) (now (c .before .before .before .before .before .before .args .out)) (c .before .before .before .scan .result) (c .before .before .within .result) (c .before .before .before .scan .ensures) (c .before .before .within .ensures), kept-out (now (c .before .before .before .before .before .before .args .log)) (now (c .before .before .before .before .before .before .args .out)) (c .before .before .before .scan .result) (c .before .before .within .result) (c .before .before .before .scan .ensures) (c .before .before .within .ensures) (sym (c .before .is-done .ensures) ∙ c .if1 .left))
+    let is-done = c .before .is-done in
+    let within = c .before .before .within in
+    let scan = c .before .before .before .scan in
+    let args = c .before .before .before .before .before .before .args in
+    let kept = kept-out (now (args .log)) (now (args .out)) _ _ (scan .ensures) (within .ensures) (sym (is-done .ensures) ∙ c .if1 .left) in
+    (answer-is (now (args .log)) (now (args .out)) _ _ (scan .ensures) (within .ensures), kept)
 
 pub play-log-spec : {M : Type 1} → statement M
 play-log-spec =

@@ -24,11 +24,13 @@ loop-holds c =
 
 sub-put-gap : tie.Need-sub-put-gap Inv-loop μ-loop
 sub-put-gap c =
-    c .before .before .loop .inv .low
+    let loop = c .before .before .loop in
+    loop .inv .low
 
 rem-put-gap : tie.Need-rem-put-gap Inv-loop μ-loop
 rem-put-gap c =
-    omega (arith, c .before .before .before .before .before .pre .1)
+    let pre = c .before .before .before .before .before .pre in
+    omega (arith, pre .1)
 
 put-gap-requires : tie.Need-put-gap-requires Inv-loop μ-loop
 put-gap-requires c κs =
@@ -36,7 +38,9 @@ put-gap-requires c κs =
 
 shared-slice-read-put-byte : tie.Need-shared-slice-read-put-byte Inv-loop μ-loop
 shared-slice-read-put-byte c =
-    omega (arith, c .before .before .before .before .before .before .before .before .before .before .pre .0, c .before .before .before .before .before .before .loop-test .taken)
+    let loop-test = c .before .before .before .before .before .before .loop-test in
+    let pre = c .before .before .before .before .before .before .before .before .before .before .pre in
+    omega (arith, pre .0, loop-test .taken)
 
 put-byte-requires : tie.Need-put-byte-requires Inv-loop μ-loop
 put-byte-requires c κs =
@@ -52,11 +56,15 @@ loop-less c =
 
 loop-again : tie.Need-loop-again Inv-loop μ-loop
 loop-again c =
-    record { low = let l = c .before .before .before .before .before .before .before .before .before .before .loop .inv .low in omega arith; same = c .before .before .put-byte .kept .0 ∙ c .before .before .before .before .before .before .before .put-gap .kept .0 ∙ c .before .before .before .before .before .before .before .before .before .before .loop .inv .same }
+    let put-byte = c .before .before .put-byte in
+    let put-gap = c .before .before .before .before .before .before .before .put-gap in
+    let loop = c .before .before .before .before .before .before .before .before .before .before .loop in
+    record { low = let l = loop .inv .low in omega arith; same = put-byte .kept .0 ∙ put-gap .kept .0 ∙ loop .inv .same }
 
 same-length : tie.Need-same-length Inv-loop μ-loop
 same-length c =
-    c .before .loop .inv .same
+    let loop = c .before .loop in
+    loop .inv .same
 
 returns : tie.Need-returns Inv-loop μ-loop
 returns c =

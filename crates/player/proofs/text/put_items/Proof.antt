@@ -31,19 +31,24 @@ further-requires c κs =
 
 put-line-requires : tie.Need-put-line-requires Inv-loop μ-loop
 put-line-requires c κs =
-    (c .before .further .ensures .0, c .before .further .ensures .1)
+    let further = c .before .further in
+    (further .ensures .0, further .ensures .1)
 
 loop-less : tie.Need-loop-less Inv-loop μ-loop
 loop-less c =
-    omega (arith, c .before .before .before .before .further .ensures .0, c .before .before .before .before .further .ensures .1)
+    let further = c .before .before .before .before .further in
+    omega (arith, further .ensures .0, further .ensures .1)
 
 loop-again : tie.Need-loop-again Inv-loop μ-loop
 loop-again c =
-    c .before .before .put-line .kept .1 .1 .1 .1 .0 ∙ c .before .before .before .before .before .before .before .before .loop .inv
+    let put-line = c .before .before .put-line in
+    let loop = c .before .before .before .before .before .before .before .before .loop in
+    put-line .kept .1 .1 .1 .1 .0 ∙ loop .inv
 
 same-length : tie.Need-same-length Inv-loop μ-loop
 same-length c =
-    c .before .loop .inv
+    let loop = c .before .loop in
+    loop .inv
 
 returns : tie.Need-returns Inv-loop μ-loop
 returns c =

@@ -27,15 +27,18 @@ add-i c =
 
 loop-less : tie.Need-loop-less Inv-loop μ-loop
 loop-less c =
-    rw (length-set (c .before .loop .out) (c .before .loop .i) 238) (omega arith)
+    let loop = c .before .loop in
+    rw (length-set (loop .out) (loop .i) 238) (omega arith)
 
 loop-again : tie.Need-loop-again Inv-loop μ-loop
 loop-again c =
-    length-set (c .before .loop .out) (c .before .loop .i) 238 ∙ c .before .loop .inv
+    let loop = c .before .loop in
+    length-set (loop .out) (loop .i) 238 ∙ loop .inv
 
 same-length : tie.Need-same-length Inv-loop μ-loop
 same-length c =
-    c .before .loop .inv
+    let loop = c .before .loop in
+    loop .inv
 
 returns : tie.Need-returns Inv-loop μ-loop
 returns c =
