@@ -3,7 +3,7 @@
 // Standard input has a row of cases: two bytes for the output's length, two for the log's, the log.
 use log_player::log::play_log;
 use log_records::judge::word_at;
-use log_scan::answer::Played;
+use log_scan::answer::LogAnswer;
 use log_scan::answer::is_done;
 use log_scan::answer::refusal;
 use log_scan::answer::returned;
@@ -55,11 +55,11 @@ fn print_number(n: u64) {
     io::print_decimal(1, n);
 }
 
-fn print_answer(answer: Played) {
+fn print_answer(answer: LogAnswer) {
     io::print_decimal(1, refusal(answer));
     print_number(returned(answer));
     match answer {
-        Played::Done {
+        LogAnswer::Done {
             written: _,
             frames,
             clocks,
@@ -69,15 +69,15 @@ fn print_answer(answer: Played) {
             print_number(clocks);
             print_number(records);
         }
-        Played::TooLong => {}
-        Played::BadStart => {}
-        Played::WrongRecord { place: _ } => {}
-        Played::TooShort { needed: _ } => {}
+        LogAnswer::TooLong => {}
+        LogAnswer::BadStart => {}
+        LogAnswer::WrongRecord { place: _ } => {}
+        LogAnswer::TooShort { needed: _ } => {}
     }
 }
 
 // Bytes written: none with a refusal.
-fn written(answer: Played) -> usize {
+fn written(answer: LogAnswer) -> usize {
     if is_done(answer) {
         returned(answer) as usize
     } else {

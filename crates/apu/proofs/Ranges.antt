@@ -106,7 +106,7 @@ sound-held a at v k h =
 
 gated-held : (a : Apu) (at v : ℕ) → v ≤ 255 → Held a → Held (gatedWritten a at v)
 unfolding gatedWritten
-gated-held a at v k h = both-ways Held _ (sound-held a at v k h) (both-ways Held _ h (both-ways Held _ (sound-held a at v k h) h))
+gated-held a at v k h = both-ways Held _ (sound-held a at v k h) (both-ways Held _ (sound-held a at v k h) h)
 
 ram-held : (a : Apu) (at v : ℕ) → Held a → Held (ramWritten a at v)
 unfolding ramWritten

@@ -60,7 +60,7 @@ full a = record { half = refl; counter = refl; pulse1 = refl; pulse2 = refl; wav
 
 gated : (a : Apu) (at v : ℕ) → Untouched a (gatedWritten a at v)
 unfolding gatedWritten
-gated a at v = both-ways (Untouched a) _ (sound a at v) (both-ways (Untouched a) _ (same a) (both-ways (Untouched a) _ (sound a at v) (same a)))
+gated a at v = both-ways (Untouched a) _ (sound a at v) (both-ways (Untouched a) _ (sound a at v) (same a))
 
 powered : (a : Apu) (v : ℕ) → Untouched a (powerWritten a v)
 unfolding powerWritten poweredOn poweredOff

@@ -1,6 +1,6 @@
 -- What each register reads as and what a write does, from document 01, "Registers and power". `at` is the address less FF10. Assumes nothing.
 use Prim.Native.Nat.{ℕ, zero, suc, _+_, _-_, _*_, _%_}
-use mathlib.Core.Bool.{true, false}
+use mathlib.Core.Bool.{Bool, true, false, _||_}
 use lib.Dec.{eqb, ltb, leb}
 use lib.IntN.{pos, negsuc}
 use Rattle.ground.specs.Pick.{pick}
@@ -72,13 +72,13 @@ soundWritten a at value =
     (pick (eqb at 20) (withControl a value)
     (withSelection a value))))))
 
+-- "FF11, FF16, FF1B, FF20", as offsets from FF10
+abbrev pub isLength : ℕ → Bool
+isLength at = eqb at 1 || (eqb at 6 || (eqb at 11 || eqb at 16))
+
 -- "With power off, of FF10..FF25 only FF11, FF16, FF1B, FF20 take writes"
 unfoldable pub gatedWritten : Apu → ℕ → ℕ → Apu
-gatedWritten a at value =
-    pick (a .power) (soundWritten a at value)
-    (pick (eqb at 21) a
-    (pick (eqb (at % 5) 1) (soundWritten a at value)
-    a))
+gatedWritten a at value = pick (a .power) (soundWritten a at value) (pick (isLength at) (soundWritten a at value) a)
 
 -- wave RAM, FF30..FF3F
 unfoldable pub ramWritten : Apu → ℕ → ℕ → Apu

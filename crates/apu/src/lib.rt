@@ -17,7 +17,7 @@ pub struct Apu {
     // FF25
     pub channels_selection: u8,
     pub power: bool,
-    // working clocks since the last frame, less what frames took, in whole numbers of 2^-48
+    // working clocks, less N for each frame made: 0 up to N, a whole number of 2^-48
     pub sample_counter: f64,
     // the divider bit that the last working clock saw
     pub divider_sequencer_clock_bit: bool,

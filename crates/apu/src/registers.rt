@@ -173,10 +173,7 @@ impl Apu {
         if self.power {
             return self.write_sound(at, value);
         }
-        if at == 21 {
-            return self;
-        }
-        if at % 5 == 1 {
+        if (at == 1) | ((at == 6) | ((at == 11) | (at == 16))) {
             return self.write_sound(at, value);
         }
         self

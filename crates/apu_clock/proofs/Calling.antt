@@ -10,7 +10,7 @@ use Rattle.clocks.specs.Calls.{halfClocksOf}
 use Rattle.clocks.specs.declared.sample_counter.Ticked.{Ticked}
 use Rattle.frame.specs.Buffers.{Buffers, roomFor, framed}
 use Rattle.apu.specs.With.{withClocks}
-use Rattle.apu_clock.specs.Clocking.{After, answered, passed, frameOf, made, worked, clockOf, noRoom}
+use Rattle.apu_clock.specs.Clocking.{After, answered, passed, frameOf, frameDue, worked, clockOf, noRoom}
 use Rattle.apu_clock.specs.Answers.{refusalOf, returnedOf}
 use Rattle.apu.specs.declared.Apu.{Apu}
 use Rattle.apu_clock.specs.declared.clock.Framed.{Framed}
@@ -21,11 +21,11 @@ use Rattle.apu_clock.specs.declared.clock.Answer.the-variants.{Nothing, 
 module _ (a : Apu) (half : ℕ) (double : Bool) (divider place : ℕ) (b : Buffers) (t : Ticked) (t-is : t ≡ tickBy (everyAt 44100) (a .«sample_counter»)) where
   pub frame-way : (f : Framed) (c : Buffers) → t .made ≡ true → roomFor place b ≡ true → f ≡ frameOf a (t .counter) half double divider → c ≡ framed (f .mix) place b
       → answered Frame (f .apu) c ≡ worked a half double divider place b
-  unfolding pick worked made
+  unfolding pick worked frameDue
   frame-way f c m r f-is c-is = rw (c-is, ← t-is, m, r, f-is)
 
   pub refused-way : t .made ≡ true → roomFor place b ≡ false → answered NoRoom a b ≡ worked a half double divider place b
-  unfolding pick worked made
+  unfolding pick worked frameDue
   refused-way m r = rw (← t-is, m, r)
 
   pub plain-way : (n : Apu) → t .made ≡ false → n ≡ passed a (t .counter) half double divider → answered Nothing n b ≡ worked a half double divider place b
@@ -47,7 +47,7 @@ abbrev Told : Apu → Bool → ℕ → Buffers → After → Type 0
 Told a double place b r = refusalOf (r .clocked .answer) ≡ pick (noRoom a double place b) 2 0
 
 refusal-is : (a : Apu) (double : Bool) (divider place : ℕ) (b : Buffers) → Told a double place b (clockOf a double divider place b)
-unfolding clockOf worked made
+unfolding clockOf worked frameDue
 refusal-is a double divider place b =
     let none = pick-false {A = ℕ} (noRoom a double place b) 2 0 in
     pick-holds (Told a double place b) _ _ _

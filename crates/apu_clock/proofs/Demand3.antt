@@ -12,7 +12,7 @@ use Rattle.clocks.proofs.Seen.{steps, kinds, seen-conserved}
 use Rattle.frame.specs.Buffers.{Buffers}
 use Rattle.apu.specs.Start as start
 use Rattle.apu.specs.Registers.{readOf, writeOf}
-use Rattle.apu_clock.specs.Clocking.{After, answered, pushed, passed, frameOf, made, worked, clockOf}
+use Rattle.apu_clock.specs.Clocking.{After, answered, pushed, passed, frameOf, frameDue, worked, clockOf}
 use Rattle.apu_clock.specs.Uses.{Use, read, write, pcm12, pcm34, clock, State, counted, step, readKind, writeKind, clockKind, kind, see}
 use Rattle.apu.specs.declared.Apu.{Apu}
 use Rattle.apu.specs.declared.registers.Read.{Read}
@@ -79,7 +79,7 @@ module _ (a : Apu) (f : ℕ) (d : Bool) (v place : ℕ) (b : Buffers) (long : lt
   plain-law m = rw (passed-half a _ _ d v, passed-counter a _ _ d v, at-speed d (before a f), long, m)
 
   worked-law : Law a f d (worked a (a .«clocks_counter» + halfClocksOf d - 2) d v place b)
-  unfolding worked made
+  unfolding worked frameDue
   worked-law =
       pick-holds (Law a f d) _ _ _
       (λ m. pick-holds (Law a f d) _ _ _ (λ _. framed-law m b) (λ _. refl))

@@ -51,8 +51,8 @@ unfoldable pub frameOf : Apu → Float → ℕ → Bool → ℕ → Framed
 frameOf a counter half double divider = record { apu = passed (pushed a .apu) counter half double divider; mix = pushed a .mix }
 
 -- a frame that is due: refused where a buffer has no room, with unit and buffers untouched
-unfoldable pub made : Apu → Float → ℕ → Bool → ℕ → ℕ → Buffers → After
-made a counter half double divider place b =
+unfoldable pub frameDue : Apu → Float → ℕ → Bool → ℕ → ℕ → Buffers → After
+frameDue a counter half double divider place b =
     let f = frameOf a counter half double divider in
     pick (roomFor place b) (answered Frame (f .apu) (framed (f .mix) place b)) (answered NoRoom a b)
 
@@ -61,7 +61,7 @@ unfoldable pub worked : Apu → ℕ → Bool → ℕ → ℕ → Buffers → Aft
 worked a half double divider place b =
     let ticked = tickBy (everyAt 44100) (a .«sample_counter») in
     pick (ticked .made)
-    (made a (ticked .counter) half double divider place b)
+    (frameDue a (ticked .counter) half double divider place b)
     (answered Nothing (passed a (ticked .counter) half double divider) b)
 
 -- "Normal speed adds 2 half-clocks, double speed 1. Below 2, the call ends; else 2 are taken off and a working clock follows"

@@ -41,8 +41,8 @@ finished-is a double divider = go (a .power) refl
 abbrev pub withHalf : Apu → ℕ → Apu
 withHalf a half = withClocks a (a .«sample_counter») half
 
-abbrev pub halved : Take → ℕ → Take
-halved t half = record { apu = withHalf (t .apu) half; bytes = t .bytes }
+abbrev pub withHalves : Take → ℕ → Take
+withHalves t half = record { apu = withHalf (t .apu) half; bytes = t .bytes }
 
 pub advanced-half : (a : Apu) (h : ℕ) → advanced (withHalf a h) ≡ withHalf (advanced a) h
 unfolding advanced lengthsClocked sweepClocked envelopesClocked
@@ -78,8 +78,8 @@ module _ (double : Bool) (divider : ℕ) where
       ∙ ap (bitStored (bitOf double divider)) (passing-half a c h k)
       ∙ stored-half (bitOf double divider) (passing (withClocks a c h)) k
 
-  worked-is : (t : Take) (h : ℕ) → left t (clocking.worked (t .apu) h double divider 0 lent) ≡ halved (beaten (bitOf double divider) t) h
-  unfolding clocking.worked clocking.made frameOf passed working workingBytes pushed roomIn roomInAll pick
+  worked-is : (t : Take) (h : ℕ) → left t (clocking.worked (t .apu) h double divider 0 lent) ≡ withHalves (beaten (bitOf double divider) t) h
+  unfolding clocking.worked clocking.frameDue frameOf passed working workingBytes pushed roomIn roomInAll pick
   worked-is t h = go (tickBy (everyAt 44100) (t .apu .«sample_counter») .made)
     where
       a : Apu
@@ -98,7 +98,7 @@ module _ (double : Bool) (divider : ℕ) where
       zero₃₂ = ofBits binary32 0
 
       go : (m : Bool)
-          → left t (pick m (clocking.made a c h double divider 0 lent) (clocking.answered Nothing (passed a c h double divider) lent))
+          → left t (pick m (clocking.frameDue a c h double divider 0 lent) (clocking.answered Nothing (passed a c h double divider) lent))
           ≡ record {
             apu = withHalf (bitStored bit (passing (withClocks (pick m f a) c (a .«clocks_counter»)))) h;
             bytes = t .bytes ++ pick m (mixItem (pushed a .mix)) [];
@@ -112,7 +112,7 @@ module _ (double : Bool) (divider : ℕ) where
 -- ---- a call by its bit
 abbrev pub callBy : Bool → Bool → Take → Take
 callBy double bit t =
-    let half = t .apu .«clocks_counter» + halfClocksOf double in pick (ltb half 2) (halved t half) (halved (beaten bit t) (half - 2))
+    let half = t .apu .«clocks_counter» + halfClocksOf double in pick (ltb half 2) (withHalves t half) (withHalves (beaten bit t) (half - 2))
 
 pub call-by : (double : Bool) (divider : ℕ) (t : Take) → callOn double divider t ≡ callBy double (bitOf double divider) t
 unfolding callUnit callBytes clockOf pick
@@ -126,6 +126,6 @@ call-by double divider t = go (ltb half 2)
 
     go : (b : Bool)
         → left t (pick b (clocking.answered Nothing (withClocks a (a .«sample_counter») half) lent) (clocking.worked a (half - 2) double divider 0 lent))
-        ≡ pick b (halved t half) (halved (beaten (bitOf double divider) t) (half - 2))
+        ≡ pick b (withHalves t half) (withHalves (beaten (bitOf double divider) t) (half - 2))
     go true = ap (λ (l : List ℕ). record { apu = withHalf a half; bytes = l }) (append-nil (t .bytes))
     go false = worked-is double divider t (half - 2)

@@ -16,18 +16,18 @@ use Rattle.clocks.specs.Distance.{awayOf}
 use Rattle.clocks.proofs.Distances.{units}
 use Rattle.clocks.proofs.Chunks.{before, through}
 use Rattle.log_items.specs.Items.{mixItem}
-use Rattle.apu_run.specs.Moving.{moveOf}
-use Rattle.apu_run.specs.Shot.{shotOf}
-use Rattle.apu_run.specs.declared.moving.Moving.{Moving}
-use Rattle.apu_run.specs.declared.moving.Still.{Still}
-use Rattle.apu_run.specs.declared.moving.Converters.{Converters}
+use Rattle.apu_run.specs.Phases.{phasesClocked}
+use Rattle.apu_run.specs.FrameStep.{frameStepOf}
+use Rattle.apu_run.specs.declared.phases.Phases.{Phases}
+use Rattle.apu_run.specs.declared.phases.Settings.{Settings}
+use Rattle.apu_run.specs.declared.phases.Converters.{Converters}
 use Rattle.apu_run.proofs.Parts.{Rest, Point, restClock, restFrame, pointClock}
 
-module _ (s : Still) where
+module _ (s : Settings) where
   -- what is written stays
   framed-grows : (b : Bool) (a : Rest) → length (a .2) ≤ length (pick b (restFrame s a) a .2)
   unfolding pick
-  framed-grows true a = rw length-append (le-add-right (length (a .2)) (length (mixItem (shotOf s (a .0) (a .1) .mix))))
+  framed-grows true a = rw length-append (le-add-right (length (a .2)) (length (mixItem (frameStepOf s (a .0) (a .1) .mix))))
   framed-grows false a = le-refl (length (a .2))
 
   pub grows : (n : ℕ) (p : Point) → length (p .1 .2) ≤ length (iterate n (pointClock s) p .1 .2)
@@ -42,7 +42,7 @@ module _ (s : Still) where
   framed-front : (b : Bool) (l : List ℕ) (a : Rest) → pick b (restFrame s (a .0, a .1, l ++ a .2)) (a .0, a .1, l ++ a .2)
       ≡ (let f = pick b (restFrame s a) a in (f .0, f .1, l ++ f .2))
   unfolding pick
-  framed-front true l a = let f = shotOf s (a .0) (a .1) in ap (λ (x : List ℕ). (a .0, f .converters, x)) (append-assoc l (a .2) (mixItem (f .mix)))
+  framed-front true l a = let f = frameStepOf s (a .0) (a .1) in ap (λ (x : List ℕ). (a .0, f .converters, x)) (append-assoc l (a .2) (mixItem (f .mix)))
   framed-front false l a = refl
 
   point-front : (l : List ℕ) (p : Point) → pointClock s (front l p) ≡ front l (pointClock s p)
@@ -53,10 +53,10 @@ module _ (s : Still) where
   points-front n l p = iterate-part (front l) (pointClock s) (pointClock s) (point-front l) n p
 
   -- p clocks of the channels are still to come at the start, and 1 at the end
-  abbrev move : Moving → Moving
-  move m = moveOf s m
+  abbrev move : Phases → Phases
+  move m = phasesClocked s m
 
-  rest-clocks : (n : ℕ) (m : Moving) (k : Converters) (l : List ℕ) → iterate n (restClock s) (m, k, l) ≡ (iterate n move m, k, l)
+  rest-clocks : (n : ℕ) (m : Phases) (k : Converters) (l : List ℕ) → iterate n (restClock s) (m, k, l) ≡ (iterate n move m, k, l)
   unfolding iterate
   rest-clocks zero m k l = refl
   rest-clocks (suc n) m k l = rest-clocks n (move m) k l
@@ -64,21 +64,21 @@ module _ (s : Still) where
   abbrev point : Float → Rest → Point
   point c a = (c, a)
 
-  module _ (m : Moving) (k : Converters) (x : ℕ) (l : List ℕ) (left p : ℕ) (h : x < K) where
+  module _ (m : Phases) (k : Converters) (x : ℕ) (l : List ℕ) (left p : ℕ) (h : x < K) where
     abbrev away : ℕ
     away = awayOf (units x)
 
-    pub turn : (m' : Moving) → away ≤ left → m' ≡ iterate (p + (away - 1)) move m
-        → let f = shotOf s m' k in
+    pub turn : (m' : Phases) → away ≤ left → m' ≡ iterate (p + (away - 1)) move m
+        → let f = frameStepOf s m' k in
         iterate (left - away) (pointClock s) (units (x + away * 2 ^ 48 - K), (iterate 1 move m', f .converters, l ++ mixItem (f .mix)))
         ≡ iterate left (pointClock s) (units x, (iterate p move m, k, l))
     turn m' g e =
-        let start : Moving = iterate p move m in
-        let end : Moving = iterate (away - 1) move start in
+        let start : Phases = iterate p move m in
+        let end : Phases = iterate (away - 1) move start in
         let moved : m' ≡ end = e ∙ iterate-add p (away - 1) move m in
         ap
-        (λ (y : Moving).
-        let f = shotOf s y k in
+        (λ (y : Phases).
+        let f = frameStepOf s y k in
         iterate (left - away) (pointClock s) (units (x + away * 2 ^ 48 - K), (iterate 1 move y, f .converters, l ++ mixItem (f .mix))))
         moved
         ∙ sym
@@ -92,10 +92,10 @@ module _ (s : Still) where
         split : (d n : ℕ) → d ≤ n → n ≡ d + (n - d)
         split d n h = omega arith
 
-    pub rest : (m' : Moving) → left < away → m' ≡ iterate (p + left) move m
+    pub rest : (m' : Phases) → left < away → m' ≡ iterate (p + left) move m
         → (units (x + left * 2 ^ 48), (m', k, l)) ≡ iterate left (pointClock s) (units x, (iterate p move m, k, l))
     rest m' g e =
-        ap (λ (y : Moving). (units (x + left * 2 ^ 48), (y, k, l))) (e ∙ iterate-add p left move m)
+        ap (λ (y : Phases). (units (x + left * 2 ^ 48), (y, k, l))) (e ∙ iterate-add p left move m)
         ∙ sym
         (before point (pointClock s) (restClock s) (restFrame s) (λ c a. refl) left x (iterate p move m, k, l) h g
         ∙ ap (λ (a : Rest). (units (x + left * 2 ^ 48), a)) (rest-clocks left (iterate p move m) k l))

@@ -1,5 +1,5 @@
 -- The laws of many clock calls at once: of a run from frame to frame, then of the calls of a record. Assumes nothing.
-pub mod Shots  -- a frame by what its run's settings give, and a silent one
+pub mod FrameSteps  -- a frame by what its run's settings give, and a silent one
 pub mod Parts  -- a run by what it moves alone
 pub mod Moves  -- many clocks of what moves
 pub mod FrameTurns  -- from one frame to the next

@@ -22,7 +22,7 @@ use Rattle.apu_clock.proofs.Untouched.{advances}
 use Rattle.apu_run.specs.Working.{passing, working, workingBytes, Take, workingOn}
 use Rattle.apu_run.proofs.Ranges.{Ready}
 use Rattle.apu_run.specs.Owed.{marked, fallen}
-use Rattle.apu_run.proofs.Beats.{halved}
+use Rattle.apu_run.proofs.Beats.{withHalves}
 
 -- ---- the marks: half-clocks and stored bit
 abbrev pub markedTake : Take → ℕ → Bool → Take
@@ -65,11 +65,11 @@ pub ran-own : (n : ℕ) (t : Take) → iterate n workingOn t ≡ markedTake (ite
 ran-own n t = ran-marked n t (t .apu .«clocks_counter») (t .apu .«divider_sequencer_clock_bit»)
 
 -- the half-clocks alone
-pub working-half : (t : Take) (h : ℕ) → workingOn (halved t h) ≡ halved (workingOn t) h
-working-half t h = working-marked t h (t .apu .«divider_sequencer_clock_bit») ∙ ap (λ (x : Take). halved x h) (sym (working-own t))
+pub working-half : (t : Take) (h : ℕ) → workingOn (withHalves t h) ≡ withHalves (workingOn t) h
+working-half t h = working-marked t h (t .apu .«divider_sequencer_clock_bit») ∙ ap (λ (x : Take). withHalves x h) (sym (working-own t))
 
-pub ran-half : (n : ℕ) (t : Take) (h : ℕ) → iterate n workingOn (halved t h) ≡ halved (iterate n workingOn t) h
-ran-half n t h = ran-marked n t h (t .apu .«divider_sequencer_clock_bit») ∙ ap (λ (x : Take). halved x h) (sym (ran-own n t))
+pub ran-half : (n : ℕ) (t : Take) (h : ℕ) → iterate n workingOn (withHalves t h) ≡ withHalves (iterate n workingOn t) h
+ran-half n t h = ran-marked n t h (t .apu .«divider_sequencer_clock_bit») ∙ ap (λ (x : Take). withHalves x h) (sym (ran-own n t))
 
 -- ---- power
 pub working-power : (a : Apu) → working a .power ≡ a .power

@@ -8,65 +8,65 @@ use native.Mathlib.Omega.{arith}
 use Rattle.ground.specs.Iterate.{iterate}
 use Rattle.ground.proofs.Cases.{pick-true, pick-false, pick-holds, and-left, and-right}
 use Rattle.ground.proofs.Timers.{iterate-holds}
-use Rattle.channel_pulse.specs.Tone.{toneClocked}
-use Rattle.channel_pulse.proofs.Tones as tones
-use Rattle.channel_wave.specs.Swing.{swingClocked}
-use Rattle.channel_wave.proofs.Swings as swings
+use Rattle.channel_pulse.specs.Phase.{pulsePhaseClocked}
+use Rattle.channel_pulse.proofs.Phases as tones
+use Rattle.channel_wave.specs.Phase.{wavePhaseClocked}
+use Rattle.channel_wave.proofs.Phases as swings
 use Rattle.channel_noise.specs.Noise.{reloadOf}
-use Rattle.channel_noise.specs.Hiss.{hissClocked}
-use Rattle.channel_noise.proofs.Hisses as hisses
+use Rattle.channel_noise.specs.Phase.{noisePhaseClocked}
+use Rattle.channel_noise.proofs.Phases as hisses
 use Rattle.apu.specs.Held.{Held, FloatsHeld}
 use Rattle.apu.specs.declared.Apu.{Apu}
-use Rattle.apu_run.specs.Moving.{StillHeld, MovingHeld, ConvertersHeld, stillOf, movingOf, convertersOf, slowOf, moveOf}
-use Rattle.apu_run.specs.declared.moving.Moving.{Moving}
-use Rattle.apu_run.specs.declared.moving.Still.{Still}
+use Rattle.apu_run.specs.Phases.{SettingsHeld, PhasesHeld, ConvertersHeld, settingsOf, phasesOf, convertersOf, slowOf, phasesClocked}
+use Rattle.apu_run.specs.declared.phases.Phases.{Phases}
+use Rattle.apu_run.specs.declared.phases.Settings.{Settings}
 
-module _ (s : Still) where
+module _ (s : Settings) where
   -- with power on, each part by itself
-  pub moves : (n : ℕ) (m : Moving) → s .power ≡ true
+  pub moves : (n : ℕ) (m : Phases) → s .power ≡ true
       → record {
-        pulse1 = iterate n (toneClocked (s .pulse1 .«first_trigger») (2047 - s .pulse1 .frequency)) (m .pulse1);
-        pulse2 = iterate n (toneClocked (s .pulse2 .«first_trigger») (2047 - s .pulse2 .frequency)) (m .pulse2);
-        wave = iterate n (swingClocked (2047 - s .wave .frequency)) (m .wave);
-        noise = iterate n (hissClocked (s .noise .«step_mode_7_bits») (reloadOf (s .noise))) (m .noise);
+        pulse1 = iterate n (pulsePhaseClocked (s .pulse1 .«first_trigger») (2047 - s .pulse1 .frequency)) (m .pulse1);
+        pulse2 = iterate n (pulsePhaseClocked (s .pulse2 .«first_trigger») (2047 - s .pulse2 .frequency)) (m .pulse2);
+        wave = iterate n (wavePhaseClocked (2047 - s .wave .frequency)) (m .wave);
+        noise = iterate n (noisePhaseClocked (s .noise .«step_mode_7_bits») (reloadOf (s .noise))) (m .noise);
       }
-      ≡ iterate n (moveOf s) m
-  unfolding iterate moveOf
+      ≡ iterate n (phasesClocked s) m
+  unfolding iterate phasesClocked
   moves zero m on = refl
-  moves (suc n) m on = moves n _ on ∙ ap (iterate n (moveOf s)) (sym (pick-true (s .power) _ m on))
+  moves (suc n) m on = moves n _ on ∙ ap (iterate n (phasesClocked s)) (sym (pick-true (s .power) _ m on))
 
   -- with power off, nothing
-  pub stands : (n : ℕ) (m : Moving) → s .power ≡ false → iterate n (moveOf s) m ≡ m
-  unfolding iterate moveOf
+  pub stands : (n : ℕ) (m : Phases) → s .power ≡ false → iterate n (phasesClocked s) m ≡ m
+  unfolding iterate phasesClocked
   stands zero m off = refl
-  stands (suc n) m off = ap (iterate n (moveOf s)) (pick-false (s .power) _ m off) ∙ stands n m off
+  stands (suc n) m off = ap (iterate n (phasesClocked s)) (pick-false (s .power) _ m off) ∙ stands n m off
 
   small : (f : ℕ) → 2047 - f ≤ 2047
   small f = omega arith
 
-  move-held : StillHeld s → (m : Moving) → MovingHeld m → MovingHeld (moveOf s m)
-  unfolding moveOf
+  move-held : SettingsHeld s → (m : Phases) → PhasesHeld m → PhasesHeld (phasesClocked s m)
+  unfolding phasesClocked
   move-held h m k =
-      pick-holds MovingHeld (s .power) _ m
+      pick-holds PhasesHeld (s .power) _ m
       (λ _. record {
-        pulse1 = tones.tone-held _ _ (m .pulse1) (small (s .pulse1 .frequency)) (k .pulse1);
-        pulse2 = tones.tone-held _ _ (m .pulse2) (small (s .pulse2 .frequency)) (k .pulse2);
-        wave = swings.swing-held _ (m .wave) (small (s .wave .frequency)) (k .wave);
-        noise = hisses.hiss-held _ _ (m .noise) (hisses.reload-most (s .noise)) (k .noise);
+        pulse1 = tones.pulse-phase-held _ _ (m .pulse1) (small (s .pulse1 .frequency)) (k .pulse1);
+        pulse2 = tones.pulse-phase-held _ _ (m .pulse2) (small (s .pulse2 .frequency)) (k .pulse2);
+        wave = swings.wave-phase-held _ (m .wave) (small (s .wave .frequency)) (k .wave);
+        noise = hisses.noise-phase-held _ _ (m .noise) (hisses.reload-most (s .noise)) (k .noise);
       })
       (λ _. k)
 
-  pub moves-held : StillHeld s → (n : ℕ) (m : Moving) → MovingHeld m → MovingHeld (iterate n (moveOf s) m)
-  moves-held h n m k = iterate-holds MovingHeld (moveOf s) (move-held h) n m k
+  pub moves-held : SettingsHeld s → (n : ℕ) (m : Phases) → PhasesHeld m → PhasesHeld (iterate n (phasesClocked s) m)
+  moves-held h n m k = iterate-holds PhasesHeld (phasesClocked s) (move-held h) n m k
 
 -- ---- clocks no more than a period has, two for each of the wave's
-pub record Near (s : Still) (n : ℕ) : Type 0 where
+pub record Near (s : Settings) (n : ℕ) : Type 0 where
   pub some : 1 ≤ n
   pub pulse1 : n ≤ 2047 - s .pulse1 .frequency + 1
   pub pulse2 : n ≤ 2047 - s .pulse2 .frequency + 1
   pub wave : n * 2 ≤ 2047 - s .wave .frequency + 1
 
-pub near-of : (s : Still) (n : ℕ) (slow : Bool) → slow ≡ slowOf s → (slow && (leb 1 n && leb n 24)) ≡ true → Near s n
+pub near-of : (s : Settings) (n : ℕ) (slow : Bool) → slow ≡ slowOf s → (slow && (leb 1 n && leb n 24)) ≡ true → Near s n
 near-of s n slow e h =
     let tests : (slowOf s && (leb 1 n && leb n 24)) ≡ true = rw (← e) h in
     let timers = and-left (slowOf s) (leb 1 n && leb n 24) tests in
@@ -84,16 +84,16 @@ near-of s n slow e h =
     }
 
 -- the ranges of the unit's own
-pub still-held : (a : Apu) → Held a → StillHeld (stillOf a)
-still-held a h = record { pulse1 = h .pulse1 .channel; pulse2 = h .pulse2 .channel; wave = h .wave .channel; noise = h .noise .channel }
+pub settings-held : (a : Apu) → Held a → SettingsHeld (settingsOf a)
+settings-held a h = record { pulse1 = h .pulse1 .channel; pulse2 = h .pulse2 .channel; wave = h .wave .channel; noise = h .noise .channel }
 
-pub moving-held : (a : Apu) → Held a → MovingHeld (movingOf a)
-moving-held a h =
+pub phases-held : (a : Apu) → Held a → PhasesHeld (phasesOf a)
+phases-held a h =
     record {
       pulse1 = tones.own-held _ (h .pulse1 .channel);
       pulse2 = tones.own-held _ (h .pulse2 .channel);
       wave = swings.own-held _ (h .wave .channel);
-      noise = hisses.hiss-of-held _ (h .noise .channel);
+      noise = hisses.noise-phase-of-held _ (h .noise .channel);
     }
 
 pub converters-held : (a : Apu) → FloatsHeld a → ConvertersHeld (convertersOf a)

@@ -9,16 +9,16 @@ use Rattle.ground.specs.Iterate.{iterate}
 use Rattle.ground.proofs.Timers.{pick-ap, iterate-part}
 use Rattle.clocks.specs.Counter.{everyAt, tickBy}
 use Rattle.frame.specs.declared.converter.Converter.{Converter}
-use Rattle.channel_pulse.specs.Tone.{toneClocked}
-use Rattle.channel_pulse.proofs.Tones.{tone-part}
-use Rattle.channel_pulse.specs.declared.tone.Tone.{Tone}
-use Rattle.channel_wave.specs.Swing.{swingClocked}
-use Rattle.channel_wave.proofs.Swings.{swing-part}
-use Rattle.channel_wave.specs.declared.swing.Swing.{Swing}
+use Rattle.channel_pulse.specs.Phase.{pulsePhaseClocked}
+use Rattle.channel_pulse.proofs.Phases.{pulse-phase-part}
+use Rattle.channel_pulse.specs.declared.phase.PulsePhase.{PulsePhase}
+use Rattle.channel_wave.specs.Phase.{wavePhaseClocked}
+use Rattle.channel_wave.proofs.Phases.{wave-phase-part}
+use Rattle.channel_wave.specs.declared.phase.WavePhase.{WavePhase}
 use Rattle.channel_noise.specs.Noise.{reloadOf}
-use Rattle.channel_noise.specs.Hiss.{hissClocked}
-use Rattle.channel_noise.proofs.Hisses.{hiss-part}
-use Rattle.channel_noise.specs.declared.hiss.Hiss.{Hiss}
+use Rattle.channel_noise.specs.Phase.{noisePhaseClocked}
+use Rattle.channel_noise.proofs.Phases.{noise-phase-part}
+use Rattle.channel_noise.specs.declared.phase.NoisePhase.{NoisePhase}
 use Rattle.channel_groups.specs.PulseGroups as pulse
 use Rattle.channel_groups.specs.WaveGroups as wave
 use Rattle.channel_groups.specs.NoiseGroups as noise
@@ -32,15 +32,15 @@ use Rattle.apu_clock.specs.Clocking.{pushed}
 use Rattle.apu_clock.specs.Sequencer.{channelsClocked}
 use Rattle.apu_clock.specs.declared.clock.Framed.{Framed}
 use Rattle.apu_run.specs.Working.{passing, working, workingBytes, Take, workingOn}
-use Rattle.apu_run.specs.Moving.{stillOf, moveOf, pulseWith, waveWith, noiseWith, putBack}
-use Rattle.apu_run.specs.Shot.{shotOf}
-use Rattle.apu_run.specs.declared.moving.Moving.{Moving}
-use Rattle.apu_run.specs.declared.moving.Still.{Still}
-use Rattle.apu_run.specs.declared.moving.Converters.{Converters}
+use Rattle.apu_run.specs.Phases.{settingsOf, phasesClocked, pulseWith, waveWith, noiseWith, putBack}
+use Rattle.apu_run.specs.FrameStep.{frameStepOf}
+use Rattle.apu_run.specs.declared.phases.Phases.{Phases}
+use Rattle.apu_run.specs.declared.phases.Settings.{Settings}
+use Rattle.apu_run.specs.declared.phases.Converters.{Converters}
 
 -- ---- a run by itself: what moves and the bytes that it has made, and with the sample counter a point of it
 abbrev pub Rest : Type 0
-Rest = Moving × Converters × List ℕ
+Rest = Phases × Converters × List ℕ
 
 abbrev pub Point : Type 0
 Point = Float × Rest
@@ -51,12 +51,12 @@ made c = tickBy (everyAt 44100) c .made
 abbrev next : Float → Float
 next c = tickBy (everyAt 44100) c .counter
 
-module _ (s : Still) where
+module _ (s : Settings) where
   abbrev pub restClock : Rest → Rest
-  restClock a = (moveOf s (a .0), a .1, a .2)
+  restClock a = (phasesClocked s (a .0), a .1, a .2)
 
   abbrev pub restFrame : Rest → Rest
-  restFrame a = let f = shotOf s (a .0) (a .1) in (a .0, f .converters, a .2 ++ mixItem (f .mix))
+  restFrame a = let f = frameStepOf s (a .0) (a .1) in (a .0, f .converters, a .2 ++ mixItem (f .mix))
 
   -- a working clock: the counter, the frame where one is made, the channels
   abbrev pub pointClock : Point → Point
@@ -67,41 +67,41 @@ abbrev pub takeAt : Apu → Point → Take
 takeAt u p = record { apu = putBack u (p .1 .0) (p .1 .1) (p .0); bytes = p .1 .2 }
 
 -- ---- the channels
-pulse-part : (g : PulseGroup) (d : Converter) (t : Tone) → pulse.clocked (pulseWith g d t) ≡ pulseWith g d (toneClocked (g .channel .«first_trigger») (2047 - g .channel .frequency) t)
+pulse-part : (g : PulseGroup) (d : Converter) (t : PulsePhase) → pulse.clocked (pulseWith g d t) ≡ pulseWith g d (pulsePhaseClocked (g .channel .«first_trigger») (2047 - g .channel .frequency) t)
 unfolding pulse.clocked
-pulse-part g d t = ap (pulse.withChannel (pulseWith g d t)) (tone-part (g .channel) t)
+pulse-part g d t = ap (pulse.withChannel (pulseWith g d t)) (pulse-phase-part (g .channel) t)
 
-wave-part : (g : WaveGroup) (d : Converter) (t : Swing) → wave.clocked (waveWith g d t) ≡ waveWith g d (swingClocked (2047 - g .channel .frequency) t)
+wave-part : (g : WaveGroup) (d : Converter) (t : WavePhase) → wave.clocked (waveWith g d t) ≡ waveWith g d (wavePhaseClocked (2047 - g .channel .frequency) t)
 unfolding wave.clocked
-wave-part g d t = ap (wave.withChannel (waveWith g d t)) (swing-part (g .channel) t)
+wave-part g d t = ap (wave.withChannel (waveWith g d t)) (wave-phase-part (g .channel) t)
 
-noise-part : (g : NoiseGroup) (d : Converter) (t : Hiss) → noise.clocked (noiseWith g d t) ≡ noiseWith g d (hissClocked (g .channel .«step_mode_7_bits») (reloadOf (g .channel)) t)
+noise-part : (g : NoiseGroup) (d : Converter) (t : NoisePhase) → noise.clocked (noiseWith g d t) ≡ noiseWith g d (noisePhaseClocked (g .channel .«step_mode_7_bits») (reloadOf (g .channel)) t)
 unfolding noise.clocked
-noise-part g d t = ap (noise.withChannel (noiseWith g d t)) (hiss-part (g .channel) t)
+noise-part g d t = ap (noise.withChannel (noiseWith g d t)) (noise-phase-part (g .channel) t)
 
 module _ (u : Apu) where
-  clocked-part : (m : Moving) (k : Converters) (c : Float)
+  clocked-part : (m : Phases) (k : Converters) (c : Float)
       → channelsClocked (putBack u m k c)
       ≡ putBack u
       (record {
-        pulse1 = toneClocked (u .pulse1 .channel .«first_trigger») (2047 - u .pulse1 .channel .frequency) (m .pulse1);
-        pulse2 = toneClocked (u .pulse2 .channel .«first_trigger») (2047 - u .pulse2 .channel .frequency) (m .pulse2);
-        wave = swingClocked (2047 - u .wave .channel .frequency) (m .wave);
-        noise = hissClocked (u .noise .channel .«step_mode_7_bits») (reloadOf (u .noise .channel)) (m .noise);
+        pulse1 = pulsePhaseClocked (u .pulse1 .channel .«first_trigger») (2047 - u .pulse1 .channel .frequency) (m .pulse1);
+        pulse2 = pulsePhaseClocked (u .pulse2 .channel .«first_trigger») (2047 - u .pulse2 .channel .frequency) (m .pulse2);
+        wave = wavePhaseClocked (2047 - u .wave .channel .frequency) (m .wave);
+        noise = noisePhaseClocked (u .noise .channel .«step_mode_7_bits») (reloadOf (u .noise .channel)) (m .noise);
       })
       k c
   unfolding channelsClocked
   clocked-part m k c =
       rw (pulse-part (u .pulse1) (k .pulse1) (m .pulse1), pulse-part (u .pulse2) (k .pulse2) (m .pulse2), wave-part (u .wave) (k .wave) (m .wave), noise-part (u .noise) (k .noise) (m .noise))
 
-  move-part : (m : Moving) (k : Converters) (c : Float) → passing (putBack u m k c) ≡ putBack u (moveOf (stillOf u) m) k c
-  unfolding passing moveOf
+  move-part : (m : Phases) (k : Converters) (c : Float) → passing (putBack u m k c) ≡ putBack u (phasesClocked (settingsOf u) m) k c
+  unfolding passing phasesClocked
   move-part m k c =
-      ap (λ (x : Apu). pick (u .power) x (putBack u m k c)) (clocked-part m k c) ∙ pick-ap (λ (n : Moving). putBack u n k c) (u .power) _ m
+      ap (λ (x : Apu). pick (u .power) x (putBack u m k c)) (clocked-part m k c) ∙ pick-ap (λ (n : Phases). putBack u n k c) (u .power) _ m
 
   -- ---- a frame
-  push-part : (m : Moving) (k : Converters) (c : Float) → let s = shotOf (stillOf u) m k in _≡_ {A = Framed} (pushed (putBack u m k c)) (record { apu = putBack u m (s .converters) c; mix = s .mix })
-  unfolding pushed pulse.sounded wave.sounded noise.sounded shotOf
+  push-part : (m : Phases) (k : Converters) (c : Float) → let s = frameStepOf (settingsOf u) m k in _≡_ {A = Framed} (pushed (putBack u m k c)) (record { apu = putBack u m (s .converters) c; mix = s .mix })
+  unfolding pushed pulse.sounded wave.sounded noise.sounded frameStepOf
   push-part m k c = refl
 
   -- ---- a working clock on a unit whose parts were put back moves those parts
@@ -110,20 +110,20 @@ module _ (u : Apu) where
       record { apu = passing (withClocks (pick b (f .apu) (putBack u (a .0) (a .1) c)) (next c) (u .«clocks_counter»)); bytes = a .2 ++ pick b (mixItem (f .mix)) [] }
 
   by-frame : (c : Float) (a : Rest) (b : Bool)
-      → one c a (pushed (putBack u (a .0) (a .1) c)) b ≡ takeAt u (next c, restClock (stillOf u) (pick b (restFrame (stillOf u) a) a))
+      → one c a (pushed (putBack u (a .0) (a .1) c)) b ≡ takeAt u (next c, restClock (settingsOf u) (pick b (restFrame (settingsOf u) a) a))
   unfolding pick
   by-frame c a true =
-      let s = shotOf (stillOf u) (a .0) (a .1) in
+      let s = frameStepOf (settingsOf u) (a .0) (a .1) in
       ap (λ (f : Framed). one c a f true) (push-part (a .0) (a .1) c)
       ∙ ap (λ (x : Apu). record { apu = x; bytes = a .2 ++ mixItem (s .mix) }) (move-part (a .0) (s .converters) (next c))
   by-frame c a false =
       ap (λ (x : Apu). record { apu = x; bytes = a .2 ++ [] }) (move-part (a .0) (a .1) (next c))
-      ∙ ap (λ (l : List ℕ). takeAt u (next c, (moveOf (stillOf u) (a .0), a .1, l))) (append-nil (a .2))
+      ∙ ap (λ (l : List ℕ). takeAt u (next c, (phasesClocked (settingsOf u) (a .0), a .1, l))) (append-nil (a .2))
 
-  works : (p : Point) → workingOn (takeAt u p) ≡ takeAt u (pointClock (stillOf u) p)
+  works : (p : Point) → workingOn (takeAt u p) ≡ takeAt u (pointClock (settingsOf u) p)
   unfolding workingOn working workingBytes
   works p = by-frame (p .0) (p .1) (made (p .0))
 
   -- and so do many
-  pub ran-at : (n : ℕ) (p : Point) → iterate n workingOn (takeAt u p) ≡ takeAt u (iterate n (pointClock (stillOf u)) p)
-  ran-at n p = iterate-part (takeAt u) workingOn (pointClock (stillOf u)) works n p
+  pub ran-at : (n : ℕ) (p : Point) → iterate n workingOn (takeAt u p) ≡ takeAt u (iterate n (pointClock (settingsOf u)) p)
+  ran-at n p = iterate-part (takeAt u) workingOn (pointClock (settingsOf u)) works n p

@@ -10,25 +10,25 @@ use lib.Seq.{sets, length-sets}
 use Rattle.log_items.proofs.Stores.{sets-append}
 use Rattle.apu.specs.declared.Apu.{Apu}
 use Rattle.apu_run.specs.Working.{Take}
-use Rattle.apu_run.specs.Calls.{moved}
+use Rattle.apu_run.specs.Calls.{further}
 use Rattle.apu_run.specs.declared.calls.Play.{Play}
 use Rattle.apu_run.proofs.Ranges.{Ready}
 use Rattle.apu_run.proofs.Marks.{front}
 
 -- a move by a take
-abbrev pub movedBy : Play → Take → Play
-movedBy p t = moved p (t .apu) (t .bytes)
+abbrev pub furtherBy : Play → Take → Play
+furtherBy p t = further p (t .apu) (t .bytes)
 
 -- in two pieces
-pub moved-moved : (p : Play) (a b : Apu) (xs ys : List ℕ) → moved p b (xs ++ ys) ≡ moved (moved p a xs) b ys
-moved-moved p a b xs ys = rw (length-append xs ys, add-assoc (p .at) (length xs) (length ys))
+pub further-further : (p : Play) (a b : Apu) (xs ys : List ℕ) → further p b (xs ++ ys) ≡ further (further p a xs) b ys
+further-further p a b xs ys = rw (length-append xs ys, add-assoc (p .at) (length xs) (length ys))
 
 -- `whole` from p and out₀ is `rest` from the unit a, the place `at` and out
 pub record Going (p : Play) (out₀ : List ℕ) (whole : Take) (a : Apu) (at : ℕ) (out : List ℕ) (rest : Take) : Type 0 where
   pub ready : Ready a
   pub room : at + length (rest .bytes) ≤ length out
   pub same : length out ≡ length out₀
-  pub state : movedBy (record { apu = a; at = at }) rest ≡ movedBy p whole
+  pub state : furtherBy (record { apu = a; at = at }) rest ≡ furtherBy p whole
   pub bytes : sets out at (rest .bytes) ≡ sets out₀ (p .at) (whole .bytes)
 
 pub begun : {p : Play} {out : List ℕ} {whole : Take}
@@ -70,11 +70,11 @@ module _ {p : Play} {out₀ : List ℕ} {whole : Take} {a : Apu} {at : ℕ} {out
           ready = h;
           room = rw (length-sets out at l) room-first;
           same = length-sets out at l ∙ g .same;
-          state = sym (moved-moved (record { apu = a; at = at }) b (rest' .apu) l (rest' .bytes)) ∙ rw e at (g .state);
+          state = sym (further-further (record { apu = a; at = at }) b (rest' .apu) l (rest' .bytes)) ∙ rw e at (g .state);
           bytes = sym (sets-append out at l (rest' .bytes)) ∙ rw e at (g .bytes);
         }
 
   -- all of it written
-  pub ended : (q : Play) (out' : List ℕ) → q ≡ movedBy (record { apu = a; at = at }) rest → out' ≡ sets out at (rest .bytes)
-      → (q ≡ movedBy p whole) × (out' ≡ sets out₀ (p .at) (whole .bytes))
+  pub ended : (q : Play) (out' : List ℕ) → q ≡ furtherBy (record { apu = a; at = at }) rest → out' ≡ sets out at (rest .bytes)
+      → (q ≡ furtherBy p whole) × (out' ≡ sets out₀ (p .at) (whole .bytes))
   ended q out' qe oe = (qe ∙ g .state, oe ∙ g .bytes)

@@ -17,14 +17,14 @@ use Rattle.log_items.proofs.Stores.{sets-append}
 use Rattle.apu.specs.Held.{Held, FloatsHeld}
 use Rattle.apu.specs.declared.Apu.{Apu}
 use Rattle.apu_run.specs.Working.{Take, ranOf}
-use Rattle.apu_run.specs.Moving.{stillOf, movingOf, convertersOf, moveOf}
+use Rattle.apu_run.specs.Phases.{settingsOf, phasesOf, convertersOf, phasesClocked}
 use Rattle.apu_run.specs.Parts.{silentOf, behind, partsOf}
 use Rattle.apu_run.specs.declared.frames.Parts.{Parts}
-use Rattle.apu_run.specs.declared.shot.Shot.{Shot}
-use Rattle.apu_run.specs.declared.moving.Moving.{Moving}
+use Rattle.apu_run.specs.declared.frame_step.FrameStep.{FrameStep}
+use Rattle.apu_run.specs.declared.phases.Phases.{Phases}
 use Rattle.apu_run.proofs.Parts.{Point, pointClock, takeAt}
 use Rattle.apu_run.proofs.Rans.{pointFrom, behind-ran, behind-none}
-use Rattle.apu_run.proofs.Shots.{shot-silent}
+use Rattle.apu_run.proofs.FrameSteps.{frame-step-silent}
 use Rattle.apu_run.proofs.FrameTurns.{grows, front, points-front, turn}
 use Rattle.apu_run.proofs.Running.{from}
 
@@ -47,7 +47,7 @@ abbrev whole : Task → Point
 whole r = pointFrom (r .unit) (r .count) (unitsIn (r .unit .«sample_counter»)) 0
 
 abbrev ahead : Apu → State → List ℕ → Point
-ahead u s l = from (stillOf u) (s .left) (s .units) (s .waiting) (movingOf u) (convertersOf u) l
+ahead u s l = from (settingsOf u) (s .left) (s .units) (s .waiting) (phasesOf u) (convertersOf u) l
 
 pub record Resting (r : Task) (s : State) : Type 0 where
   pub bytes : List ℕ
@@ -84,7 +84,7 @@ resting-first {r} {x} {due} silent held floats xe de few room =
       room = rw (ap (λ (t : Take). length (t .bytes)) (run-is r floats)) at room;
       place = sym (add-zero (r .start));
       stored = refl;
-      same = ap (λ (y : ℕ). from (stillOf (r .unit)) (r .count) y 0 (movingOf (r .unit)) (convertersOf (r .unit)) []) xe;
+      same = ap (λ (y : ℕ). from (settingsOf (r .unit)) (r .count) y 0 (phasesOf (r .unit)) (convertersOf (r .unit)) []) xe;
     }
 
 module _ {r : Task} {s : State} (g : Resting r s) where
@@ -99,8 +99,8 @@ module _ {r : Task} {s : State} (g : Resting r s) where
     abbrev u : Apu
     u = r .unit
 
-    abbrev move : Moving → Moving
-    move m = moveOf (stillOf u) m
+    abbrev move : Phases → Phases
+    move m = phasesClocked (settingsOf u) m
 
     abbrev later : ℕ
     later = s .units + s .due * 2 ^ 48 - K
@@ -108,29 +108,29 @@ module _ {r : Task} {s : State} (g : Resting r s) where
     abbrev more : List ℕ
     more = g .bytes ++ mixItem silence
 
-    onward : from (stillOf u) (s .left - s .due) later (s .waiting + s .due) (movingOf u) (convertersOf u) more ≡ whole r
+    onward : from (settingsOf u) (s .left - s .due) later (s .waiting + s .due) (phasesOf u) (convertersOf u) more ≡ whole r
     onward = go (s .due) (g .next) l due-some
       where
-        last : ℕ → Moving
-        last d = iterate (s .waiting + (d - 1)) move (movingOf u)
+        last : ℕ → Phases
+        last d = iterate (s .waiting + (d - 1)) move (phasesOf u)
 
         -- the frame's own clock comes after it
-        one-more : (d : ℕ) → 0 < d → iterate (s .waiting + d) move (movingOf u) ≡ iterate 1 move (last d)
-        one-more d h = ap (λ (n : ℕ). iterate n move (movingOf u)) (split (s .waiting) d h) ∙ iterate-add (s .waiting + (d - 1)) 1 move (movingOf u)
+        one-more : (d : ℕ) → 0 < d → iterate (s .waiting + d) move (phasesOf u) ≡ iterate 1 move (last d)
+        one-more d h = ap (λ (n : ℕ). iterate n move (phasesOf u)) (split (s .waiting) d h) ∙ iterate-add (s .waiting + (d - 1)) 1 move (phasesOf u)
           where
             split : (w d : ℕ) → 0 < d → w + d ≡ w + (d - 1) + 1
             split w d h = omega arith
 
         -- a frame's converters and mix, put at the end of what was made
-        after : ℕ → Moving → Shot → Point
-        after d m f = iterate (s .left - d) (pointClock (stillOf u)) (units (s .units + d * 2 ^ 48 - K), (m, f .converters, g .bytes ++ mixItem (f .mix)))
+        after : ℕ → Phases → FrameStep → Point
+        after d m f = iterate (s .left - d) (pointClock (settingsOf u)) (units (s .units + d * 2 ^ 48 - K), (m, f .converters, g .bytes ++ mixItem (f .mix)))
 
         go : (d : ℕ) → d ≡ awayOf (units (s .units)) → d ≤ s .left → 0 < d
-            → from (stillOf u) (s .left - d) (s .units + d * 2 ^ 48 - K) (s .waiting + d) (movingOf u) (convertersOf u) more ≡ whole r
+            → from (settingsOf u) (s .left - d) (s .units + d * 2 ^ 48 - K) (s .waiting + d) (phasesOf u) (convertersOf u) more ≡ whole r
         go d e h some =
-            ap₂ (after d) (one-more d some) (sym (shot-silent u (last d) (convertersOf u) (g .silent)))
+            ap₂ (after d) (one-more d some) (sym (frame-step-silent u (last d) (convertersOf u) (g .silent)))
             ∙ rw e
-            (turn (stillOf u) (movingOf u) (convertersOf u) (s .units) (g .bytes) (s .left) (s .waiting) (g .below) _ (rw e at h) refl)
+            (turn (settingsOf u) (phasesOf u) (convertersOf u) (s .units) (g .bytes) (s .left) (s .waiting) (g .below) _ (rw e at h) refl)
             ∙ g .same
 
     more-long : length more ≡ length (g .bytes) + 41
@@ -139,9 +139,9 @@ module _ {r : Task} {s : State} (g : Resting r s) where
 
     pub silent-room : s .at + 41 ≤ length (s .out)
     silent-room =
-        let first : Point = (units later, (iterate (s .waiting + s .due) move (movingOf u), convertersOf u, more)) in
+        let first : Point = (units later, (iterate (s .waiting + s .due) move (phasesOf u), convertersOf u, more)) in
         let under : length more ≤ length (whole r .1 .2) =
-        rw (ap (λ (p : Point). length (p .1 .2)) onward) at (grows (stillOf u) (s .left - s .due) first) in
+        rw (ap (λ (p : Point). length (p .1 .2)) onward) at (grows (settingsOf u) (s .left - s .due) first) in
         fits (s .at) (r .start) (length (g .bytes)) (length more) (length (whole r .1 .2)) (length (r .out)) (length (s .out))
         (g .place) more-long under (g .room) out-long
       where
@@ -165,7 +165,7 @@ module _ {r : Task} {s : State} (g : Resting r s) where
               oe
               ∙ ap₂ (λ (y : List ℕ) (z : ℕ). sets y z (mixItem silence)) (g .stored) (g .place)
               ∙ sym (sets-append (r .out) (r .start) (g .bytes) (mixItem silence));
-          same = ap (λ (y : ℕ). from (stillOf u) (s .left - s .due) y (s .waiting + s .due) (movingOf u) (convertersOf u) more) xe ∙ onward;
+          same = ap (λ (y : ℕ). from (settingsOf u) (s .left - s .due) y (s .waiting + s .due) (phasesOf u) (convertersOf u) more) xe ∙ onward;
         }
       where
         kept : (w left due : ℕ) → due ≤ left → w + left ≤ 32767 → w + due + (left - due) ≤ 32767
@@ -178,12 +178,12 @@ module _ {r : Task} {s : State} (g : Resting r s) where
   abbrev last : Take
   last = ranOf (s .left) (behind (r .unit) (s .units) (s .waiting))
 
-  last-is : takeAt (r .unit) (front (stillOf (r .unit)) (g .bytes) (ahead (r .unit) s [])) ≡ ranOf (r .count) (r .unit)
+  last-is : takeAt (r .unit) (front (settingsOf (r .unit)) (g .bytes) (ahead (r .unit) s [])) ≡ ranOf (r .count) (r .unit)
   last-is =
-      let still = stillOf (r .unit) in
-      let waited = iterate (s .waiting) (moveOf still) (movingOf (r .unit)) in
+      let settings = settingsOf (r .unit) in
+      let waited = iterate (s .waiting) (phasesClocked settings) (phasesOf (r .unit)) in
       ap (takeAt (r .unit))
-      (sym (points-front still (s .left) (g .bytes) (units (s .units), (waited, convertersOf (r .unit), [])))
+      (sym (points-front settings (s .left) (g .bytes) (units (s .units), (waited, convertersOf (r .unit), [])))
       ∙ ap (ahead (r .unit) s) (append-nil (g .bytes))
       ∙ g .same)
       ∙ sym (run-is r (g .floats))
@@ -209,7 +209,7 @@ module _ {r : Task} {s : State} (g : Resting r s) where
       let behind-run : Point = ahead (r .unit) s [] in (
         qe
             ∙ ap (λ (t : Take). partsOf t (s .at)) (behind-ran (r .unit) (s .left) (s .units) (s .waiting))
-            ∙ ap (λ (n : ℕ). record { moving = behind-run .1 .0; converters = behind-run .1 .1; counter = behind-run .0; at = n })
+            ∙ ap (λ (n : ℕ). record { phases = behind-run .1 .0; converters = behind-run .1 .1; counter = behind-run .0; at = n })
             (ap (λ (n : ℕ). n + length (behind-run .1 .2)) (g .place)
             ∙ add-assoc (r .start) (length (g .bytes)) (length (behind-run .1 .2))
             ∙ ap (λ (n : ℕ). r .start + n) (sym (length-append (g .bytes) (behind-run .1 .2))))

@@ -15,78 +15,78 @@ use Rattle.ground.specs.Pick.{pick}
 use Rattle.ground.proofs.Cases.{pick-true, pick-false}
 use Rattle.frame.specs.Mixing.{voiced, mixed}
 use Rattle.frame.proofs.Ranges.{stepped-held}
-use Rattle.frame.specs.Held.{one, fifth}
+use Rattle.frame.specs.Held.{unitsOfOne, fifth}
 use Rattle.frame.proofs.Numbers.{voiced-within, mixed-within, within-numbers}
 use Rattle.clocks.specs.Calls.{K}
 use Rattle.clocks.specs.Distance.{awayOf}
 use Rattle.clocks.proofs.Distances.{units, away-some, after-below}
 use Rattle.channel_pulse.specs.Pulse as pulse
-use Rattle.channel_pulse.specs.Tone.{ToneHeld, withTone}
+use Rattle.channel_pulse.specs.Phase.{PulsePhaseHeld, withPulsePhase}
 use Rattle.channel_pulse.specs.declared.pulse_channel.PulseChannel.{PulseChannel}
-use Rattle.channel_pulse.specs.declared.tone.Tone.{Tone}
+use Rattle.channel_pulse.specs.declared.phase.PulsePhase.{PulsePhase}
 use Rattle.channel_pulse.proofs.Ranges.{pulse-output-le}
 use Rattle.channel_wave.proofs.Ranges.{wave-output-le, shift-le}
 use Rattle.channel_noise.specs.Noise as noise
-use Rattle.channel_noise.specs.Hiss.{HissHeld, withHiss}
+use Rattle.channel_noise.specs.Phase.{NoisePhaseHeld, withNoisePhase}
 use Rattle.channel_noise.specs.declared.noise_channel.NoiseChannel.{NoiseChannel}
-use Rattle.channel_noise.specs.declared.hiss.Hiss.{Hiss}
+use Rattle.channel_noise.specs.declared.phase.NoisePhase.{NoisePhase}
 use Rattle.channel_noise.proofs.Ranges.{noise-output-le}
-use Rattle.channel_noise.proofs.Hisses.{with-hiss-held}
+use Rattle.channel_noise.proofs.Phases.{with-noise-phase-held}
 use Rattle.frame.specs.declared.mixing.Mix.{Mix}
 use Rattle.log_items.specs.Items.{mixItem, Known}
 use Rattle.log_items.proofs.Stores.{sets-append}
 use Rattle.apu.specs.declared.Apu.{Apu}
 use Rattle.apu_run.specs.Working.{ranOf}
-use Rattle.apu_run.specs.Moving.{StillHeld, MovingHeld, ConvertersHeld, stillOf, movingOf, convertersOf, moveOf}
+use Rattle.apu_run.specs.Phases.{SettingsHeld, PhasesHeld, ConvertersHeld, settingsOf, phasesOf, convertersOf, phasesClocked}
 use Rattle.apu_run.specs.Parts.{behind}
-use Rattle.apu_run.specs.Shot.{shotOf}
-use Rattle.apu_run.specs.Settings.{settingsOf, SettingsHeld, shotBy}
-use Rattle.apu_run.specs.declared.moving.Moving.{Moving}
-use Rattle.apu_run.specs.declared.moving.Still.{Still}
-use Rattle.apu_run.specs.declared.moving.Converters.{Converters}
-use Rattle.apu_run.specs.declared.settings.FrameSettings.{FrameSettings}
-use Rattle.apu_run.specs.declared.shot.Shot.{Shot}
+use Rattle.apu_run.specs.FrameStep.{frameStepOf}
+use Rattle.apu_run.specs.FrameSettings.{frameSettingsOf, FrameSettingsHeld, frameStepBy}
+use Rattle.apu_run.specs.declared.phases.Phases.{Phases}
+use Rattle.apu_run.specs.declared.phases.Settings.{Settings}
+use Rattle.apu_run.specs.declared.phases.Converters.{Converters}
+use Rattle.apu_run.specs.declared.frame_settings.FrameSettings.{FrameSettings}
+use Rattle.apu_run.specs.declared.frame_step.FrameStep.{FrameStep}
 use Rattle.apu_run.proofs.Parts.{Point, pointClock, takeAt}
 use Rattle.apu_run.proofs.Rans.{pointParts, behind-ran}
-use Rattle.apu_run.proofs.Shots.{by-settings}
+use Rattle.apu_run.proofs.FrameSteps.{by-frame-settings}
 use Rattle.apu_run.proofs.Moves.{moves-held}
 use Rattle.apu_run.proofs.FrameTurns.{grows, turn, rest}
 
 -- what a channel sounds is a nibble
-tone-output : (p : PulseChannel) (t : Tone) → pulse.Held p → ToneHeld t → pulse.outputOf (withTone p t) ≤ 15
-tone-output p t h g =
-    pulse-output-le (withTone p t)
+pulse-phase-output : (p : PulseChannel) (t : PulsePhase) → pulse.Held p → PulsePhaseHeld t → pulse.outputOf (withPulsePhase p t) ≤ 15
+pulse-phase-output p t h g =
+    pulse-output-le (withPulsePhase p t)
     (record { sweep = h .sweep; position = g .position; duty = h .duty; envelope = h .envelope; frequency = h .frequency; timer = g .timer })
 
-hiss-output : (n : NoiseChannel) (t : Hiss) → noise.Held n → HissHeld t → noise.outputOf (withHiss n t) ≤ 15
-hiss-output n t h g =
-    noise-output-le (withHiss n t) (with-hiss-held n t h g)
+noise-phase-output : (n : NoiseChannel) (t : NoisePhase) → noise.Held n → NoisePhaseHeld t → noise.outputOf (withNoisePhase n t) ≤ 15
+noise-phase-output n t h g =
+    noise-output-le (withNoisePhase n t) (with-noise-phase-held n t h g)
 
 -- ---- a frame's numbers are no NaN, and its converters stay in range
-module _ (s : Still) (m : Moving) (k : Converters) (h : StillHeld s) (g : MovingHeld m) (f : ConvertersHeld k) where
-  pub shot-known : Known (shotOf s m k .mix)
-  unfolding shotOf mixed
-  shot-known =
-      let p = voiced-within (k .pulse1) _ _ _ _ 0 (tone-output (s .pulse1) _ (h .pulse1) (g .pulse1)) (f .pulse1) in
-      let q = voiced-within (k .pulse2) _ _ _ _ 1 (tone-output (s .pulse2) _ (h .pulse2) (g .pulse2)) (f .pulse2) in
+module _ (s : Settings) (m : Phases) (k : Converters) (h : SettingsHeld s) (g : PhasesHeld m) (f : ConvertersHeld k) where
+  pub frame-step-known : Known (frameStepOf s m k .mix)
+  unfolding frameStepOf mixed
+  frame-step-known =
+      let p = voiced-within (k .pulse1) _ _ _ _ 0 (pulse-phase-output (s .pulse1) _ (h .pulse1) (g .pulse1)) (f .pulse1) in
+      let q = voiced-within (k .pulse2) _ _ _ _ 1 (pulse-phase-output (s .pulse2) _ (h .pulse2) (g .pulse2)) (f .pulse2) in
       let w = voiced-within (k .wave) _ _ _ _ 2 (wave-output-le _) (f .wave) in
-      let n = voiced-within (k .noise) _ _ _ _ 3 (hiss-output (s .noise) _ (h .noise) (g .noise)) (f .noise) in
+      let n = voiced-within (k .noise) _ _ _ _ 3 (noise-phase-output (s .noise) _ (h .noise) (g .noise)) (f .noise) in
       record {
         pulse1 = within-numbers fifth _ p;
         pulse2 = within-numbers fifth _ q;
         wave = within-numbers fifth _ w;
         noise = within-numbers fifth _ n;
-        all = within-numbers one _ (mixed-within _ _ _ _ p q w n);
+        all = within-numbers unitsOfOne _ (mixed-within _ _ _ _ p q w n);
       }
 
-  pub shot-held : ConvertersHeld (shotOf s m k .converters)
-  unfolding shotOf voiced
-  shot-held =
+  pub frame-step-held : ConvertersHeld (frameStepOf s m k .converters)
+  unfolding frameStepOf voiced
+  frame-step-held =
       record {
-        pulse1 = stepped-held (k .pulse1) _ _ (tone-output (s .pulse1) _ (h .pulse1) (g .pulse1)) (f .pulse1);
-        pulse2 = stepped-held (k .pulse2) _ _ (tone-output (s .pulse2) _ (h .pulse2) (g .pulse2)) (f .pulse2);
+        pulse1 = stepped-held (k .pulse1) _ _ (pulse-phase-output (s .pulse1) _ (h .pulse1) (g .pulse1)) (f .pulse1);
+        pulse2 = stepped-held (k .pulse2) _ _ (pulse-phase-output (s .pulse2) _ (h .pulse2) (g .pulse2)) (f .pulse2);
         wave = stepped-held (k .wave) _ _ (wave-output-le _) (f .wave);
-        noise = stepped-held (k .noise) _ _ (hiss-output (s .noise) _ (h .noise) (g .noise)) (f .noise);
+        noise = stepped-held (k .noise) _ _ (noise-phase-output (s .noise) _ (h .noise) (g .noise)) (f .noise);
       }
 
 -- ---- the loop: what it is asked, with what it leaves as it is and its settings, and where it stands
@@ -96,14 +96,14 @@ pub record Task : Type 0 where
   pub waiting : ℕ
   pub out : List ℕ
   pub start : ℕ
-  pub still : Still
-  pub settings : FrameSettings
-  pub moving : Moving
+  pub settings : Settings
+  pub frameSettings : FrameSettings
+  pub phases : Phases
   pub converters : Converters
 
 pub record State : Type 0 where
   pub out : List ℕ
-  pub moving : Moving
+  pub phases : Phases
   pub converters : Converters
   pub units : ℕ
   pub due : ℕ
@@ -112,18 +112,18 @@ pub record State : Type 0 where
   pub pending : ℕ
 
 -- so many clocks from a point whose channels have `waiting` clocks to come
-abbrev pub from : Still → ℕ → ℕ → ℕ → Moving → Converters → List ℕ → Point
-from s count ahead waiting m k l = iterate count (pointClock s) (units ahead, (iterate waiting (moveOf s) m, k, l))
+abbrev pub from : Settings → ℕ → ℕ → ℕ → Phases → Converters → List ℕ → Point
+from s count ahead waiting m k l = iterate count (pointClock s) (units ahead, (iterate waiting (phasesClocked s) m, k, l))
 
 -- what comes to the whole
 abbrev whole : Task → Point
-whole r = from (r .still) (r .count) (r .ahead) (r .waiting) (r .moving) (r .converters) []
+whole r = from (r .settings) (r .count) (r .ahead) (r .waiting) (r .phases) (r .converters) []
 
 pub record Running (r : Task) (s : State) : Type 0 where
   pub bytes : List ℕ
-  pub held : StillHeld (r .still)
-  pub settings : r .settings ≡ settingsOf (r .still)
-  pub moving : MovingHeld (s .moving)
+  pub held : SettingsHeld (r .settings)
+  pub frameSettings : r .frameSettings ≡ frameSettingsOf (r .settings)
+  pub phases : PhasesHeld (s .phases)
   pub converters : ConvertersHeld (s .converters)
   pub below : s .units < K
   pub next : s .due ≡ awayOf (units (s .units))
@@ -131,7 +131,7 @@ pub record Running (r : Task) (s : State) : Type 0 where
   pub room : r .start + length (whole r .1 .2) ≤ length (r .out)
   pub place : s .at ≡ r .start + length bytes
   pub stored : s .out ≡ sets (r .out) (r .start) bytes
-  pub same : from (r .still) (s .left) (s .units) (s .pending) (s .moving) (s .converters) bytes ≡ whole r
+  pub same : from (r .settings) (s .left) (s .units) (s .pending) (s .phases) (s .converters) bytes ≡ whole r
 
 item-long : (m : Mix) → length (mixItem m) ≡ 41
 unfolding mixItem
@@ -139,12 +139,12 @@ item-long m = refl
 
 -- ---- at the start
 pub running-first : {r : Task} {due : ℕ}
-    → StillHeld (r .still) → r .settings ≡ settingsOf (r .still) → MovingHeld (r .moving) → ConvertersHeld (r .converters)
+    → SettingsHeld (r .settings) → r .frameSettings ≡ frameSettingsOf (r .settings) → PhasesHeld (r .phases) → ConvertersHeld (r .converters)
     → r .ahead < K → due ≡ awayOf (units (r .ahead)) → r .waiting + r .count ≤ 32767 → r .start + length (whole r .1 .2) ≤ length (r .out)
     → Running r
     (record {
       out = r .out;
-      moving = r .moving;
+      phases = r .phases;
       converters = r .converters;
       units = r .ahead;
       due = due;
@@ -156,8 +156,8 @@ running-first {r} held te me ke xe de few room =
     record {
       bytes = [];
       held = held;
-      settings = te;
-      moving = me;
+      frameSettings = te;
+      phases = me;
       converters = ke;
       below = xe;
       next = de;
@@ -176,14 +176,14 @@ module _ {r : Task} {s : State} (g : Running r s) where
   pub out-long : length (s .out) ≡ length (r .out)
   out-long = ap length (g .stored) ∙ length-sets (r .out) (r .start) (g .bytes)
 
-  pub settings-held : SettingsHeld (r .settings)
-  unfolding settingsOf
-  settings-held =
-      rw (g .settings)
+  pub frame-settings-held : FrameSettingsHeld (r .frameSettings)
+  unfolding frameSettingsOf
+  frame-settings-held =
+      rw (g .frameSettings)
       (record {
         pulse1 = g .held .pulse1 .envelope .current;
         pulse2 = g .held .pulse2 .envelope .current;
-        wave = shift-le (r .still .wave) (g .held .wave);
+        wave = shift-le (r .settings .wave) (g .held .wave);
         noise = g .held .noise .envelope .current;
       })
 
@@ -203,60 +203,60 @@ pub few-clocks : {r : Task} {s : State} {n : ℕ} → Running r s → n ≡ ahea
 few-clocks {r} {s} {n} g e = omega (arith, ahead-most (s .due) (s .left), g .few)
 
 -- what moves, after those
-pub record Moved (r : Task) (s : State) (m : Moving) : Type 0 where
+pub record Moved (r : Task) (s : State) (m : Phases) : Type 0 where
   pub running : Running r s
-  pub is : m ≡ iterate (s .pending + ahead s) (moveOf (r .still)) (s .moving)
+  pub is : m ≡ iterate (s .pending + ahead s) (phasesClocked (r .settings)) (s .phases)
 
-pub moved-of : {r : Task} {s : State} {n : ℕ} {m : Moving}
-    → Running r s → n ≡ ahead s → m ≡ iterate (s .pending + n) (moveOf (r .still)) (s .moving) → Moved r s m
-moved-of {r} {s} g ne me = record { running = g; is = me ∙ ap (λ (x : ℕ). iterate (s .pending + x) (moveOf (r .still)) (s .moving)) ne }
+pub moved-of : {r : Task} {s : State} {n : ℕ} {m : Phases}
+    → Running r s → n ≡ ahead s → m ≡ iterate (s .pending + n) (phasesClocked (r .settings)) (s .phases) → Moved r s m
+moved-of {r} {s} g ne me = record { running = g; is = me ∙ ap (λ (x : ℕ). iterate (s .pending + x) (phasesClocked (r .settings)) (s .phases)) ne }
 
-pub moved-held : {r : Task} {s : State} {m : Moving} → Moved r s m → MovingHeld m
+pub moved-held : {r : Task} {s : State} {m : Phases} → Moved r s m → PhasesHeld m
 moved-held {r} {s} v =
     let g : Running r s = v .running in
-    rw (v .is) (moves-held (r .still) (g .held) (s .pending + ahead s) (s .moving) (g .moving))
+    rw (v .is) (moves-held (r .settings) (g .held) (s .pending + ahead s) (s .phases) (g .phases))
 
 -- ---- after the last frame: the point that the loop stands at is the whole
-pub running-last : {r : Task} {s : State} {m : Moving} {c : Float} {y : ℕ}
+pub running-last : {r : Task} {s : State} {m : Phases} {c : Float} {y : ℕ}
     → Moved r s m → s .left < s .due → y ≡ s .units + s .left * 2 ^ 48 → c ≡ units y
-    → (record { moving = m; converters = s .converters; counter = c; at = s .at } ≡ pointParts (whole r) (r .start))
+    → (record { phases = m; converters = s .converters; counter = c; at = s .at } ≡ pointParts (whole r) (r .start))
     × (s .out ≡ sets (r .out) (r .start) (whole r .1 .2))
 running-last {r} {s} {m} {c} {y} v l ye ce =
     let g : Running r s = v .running in
-    let moved : m ≡ iterate (s .pending + s .left) (moveOf (r .still)) (s .moving) =
-    v .is ∙ ap (λ (n : ℕ). iterate (s .pending + n) (moveOf (r .still)) (s .moving)) (pick-false _ _ _ (lt-leb (s .due) (s .left) l)) in
+    let moved : m ≡ iterate (s .pending + s .left) (phasesClocked (r .settings)) (s .phases) =
+    v .is ∙ ap (λ (n : ℕ). iterate (s .pending + n) (phasesClocked (r .settings)) (s .phases)) (pick-false _ _ _ (lt-leb (s .due) (s .left) l)) in
     let all : _≡_ {A = Point} (c, (m, s .converters, g .bytes)) (whole r) =
     ap (λ (x : Float). (x, (m, s .converters, g .bytes))) (ce ∙ ap units ye)
-    ∙ rest (r .still) (s .moving) (s .converters) (s .units) (g .bytes) (s .left) (s .pending) (g .below) m (rw (g .next) at l) moved
+    ∙ rest (r .settings) (s .phases) (s .converters) (s .units) (g .bytes) (s .left) (s .pending) (g .below) m (rw (g .next) at l) moved
     ∙ g .same in (
-      ap (λ (n : ℕ). record { moving = m; converters = s .converters; counter = c; at = n }) (g .place) ∙ ap (λ (p : Point). pointParts p (r .start)) all,
+      ap (λ (n : ℕ). record { phases = m; converters = s .converters; counter = c; at = n }) (g .place) ∙ ap (λ (p : Point). pointParts p (r .start)) all,
       g .stored ∙ ap (λ (p : Point). sets (r .out) (r .start) (p .1 .2)) all,
     )
 
 -- the whole is the run of a unit that is behind
-pub whole-ran : {r : Task} {s : State} → Running r s → (u : Apu) → r .still ≡ stillOf u → r .moving ≡ movingOf u → r .converters ≡ convertersOf u
+pub whole-ran : {r : Task} {s : State} → Running r s → (u : Apu) → r .settings ≡ settingsOf u → r .phases ≡ phasesOf u → r .converters ≡ convertersOf u
     → takeAt u (whole r) ≡ ranOf (r .count) (behind u (r .ahead) (r .waiting))
 whole-ran {r} g u se me ke = rw (se, me, ke) (sym (behind-ran u (r .count) (r .ahead) (r .waiting)))
 
 -- ---- after another frame
-pub record Framed (r : Task) (s : State) (m : Moving) (f : Shot) : Type 0 where
+pub record Framed (r : Task) (s : State) (m : Phases) (f : FrameStep) : Type 0 where
   pub moved : Moved r s m
   pub due : s .due ≤ s .left
-  pub is : f ≡ shotOf (r .still) m (s .converters)
+  pub is : f ≡ frameStepOf (r .settings) m (s .converters)
 
-pub framed-of : {r : Task} {s : State} {m : Moving} {f : Shot}
-    → Moved r s m → s .due ≤ s .left → f ≡ shotBy (r .settings) m (s .converters) (r .still .wave .buffer) → Framed r s m f
+pub framed-of : {r : Task} {s : State} {m : Phases} {f : FrameStep}
+    → Moved r s m → s .due ≤ s .left → f ≡ frameStepBy (r .frameSettings) m (s .converters) (r .settings .wave .buffer) → Framed r s m f
 framed-of {r} {s} {m} {f} v l fe =
     record {
       moved = v;
       due = l;
       is =
           fe
-          ∙ ap (λ (t : FrameSettings). shotBy t m (s .converters) (r .still .wave .buffer)) (v .running .settings)
-          ∙ by-settings (r .still) m (s .converters);
+          ∙ ap (λ (t : FrameSettings). frameStepBy t m (s .converters) (r .settings .wave .buffer)) (v .running .frameSettings)
+          ∙ by-frame-settings (r .settings) m (s .converters);
     }
 
-module _ {r : Task} {s : State} {m : Moving} {f : Shot} (v : Framed r s m f) where
+module _ {r : Task} {s : State} {m : Phases} {f : FrameStep} (v : Framed r s m f) where
   abbrev before : Running r s
   before = v .moved .running
 
@@ -269,27 +269,27 @@ module _ {r : Task} {s : State} {m : Moving} {f : Shot} (v : Framed r s m f) whe
   bytes-long : length bytes ≡ length (before .bytes) + 41
   bytes-long = length-append (before .bytes) (mixItem (f .mix)) ∙ ap (λ (n : ℕ). length (before .bytes) + n) (item-long (f .mix))
 
-  onward : from (r .still) (s .left - s .due) later 1 m (f .converters) bytes ≡ whole r
-  onward = go (s .due) f (before .next) (v .due) (v .moved .is ∙ ap (λ (n : ℕ). iterate (s .pending + n) (moveOf (r .still)) (s .moving)) to-due) (v .is)
+  onward : from (r .settings) (s .left - s .due) later 1 m (f .converters) bytes ≡ whole r
+  onward = go (s .due) f (before .next) (v .due) (v .moved .is ∙ ap (λ (n : ℕ). iterate (s .pending + n) (phasesClocked (r .settings)) (s .phases)) to-due) (v .is)
     where
       to-due : ahead s ≡ s .due - 1
       to-due = pick-true _ _ _ (le-leb (s .due) (s .left) (v .due))
 
-      go : (d : ℕ) (t : Shot) → d ≡ awayOf (units (s .units)) → d ≤ s .left → m ≡ iterate (s .pending + (d - 1)) (moveOf (r .still)) (s .moving)
-          → t ≡ shotOf (r .still) m (s .converters)
-          → from (r .still) (s .left - d) (s .units + d * 2 ^ 48 - K) 1 m (t .converters) (before .bytes ++ mixItem (t .mix)) ≡ whole r
+      go : (d : ℕ) (t : FrameStep) → d ≡ awayOf (units (s .units)) → d ≤ s .left → m ≡ iterate (s .pending + (d - 1)) (phasesClocked (r .settings)) (s .phases)
+          → t ≡ frameStepOf (r .settings) m (s .converters)
+          → from (r .settings) (s .left - d) (s .units + d * 2 ^ 48 - K) 1 m (t .converters) (before .bytes ++ mixItem (t .mix)) ≡ whole r
       go d t e l h i =
           rw (i, e)
-          (turn (r .still) (s .moving) (s .converters) (s .units) (before .bytes) (s .left) (s .pending) (before .below) m (rw e at l) (rw e at h)
+          (turn (r .settings) (s .phases) (s .converters) (s .units) (before .bytes) (s .left) (s .pending) (before .below) m (rw e at l) (rw e at h)
           ∙ before .same)
 
   pub framed-known : Known (f .mix)
-  framed-known = rw (v .is) (shot-known (r .still) m (s .converters) (before .held) (moved-held (v .moved)) (before .converters))
+  framed-known = rw (v .is) (frame-step-known (r .settings) m (s .converters) (before .held) (moved-held (v .moved)) (before .converters))
 
   pub framed-room : s .at + 41 ≤ length (s .out)
   framed-room =
-      let last : Point = (units later, (iterate 1 (moveOf (r .still)) m, f .converters, bytes)) in
-      let under : length bytes ≤ length (whole r .1 .2) = rw (ap (λ (p : Point). length (p .1 .2)) onward) at (grows (r .still) (s .left - s .due) last) in
+      let last : Point = (units later, (iterate 1 (phasesClocked (r .settings)) m, f .converters, bytes)) in
+      let under : length bytes ≤ length (whole r .1 .2) = rw (ap (λ (p : Point). length (p .1 .2)) onward) at (grows (r .settings) (s .left - s .due) last) in
       fits (s .at) (r .start) (length (before .bytes)) (length bytes) (length (whole r .1 .2)) (length (r .out)) (length (s .out))
       (before .place) bytes-long under (before .room) (out-long before)
     where
@@ -298,14 +298,14 @@ module _ {r : Task} {s : State} {m : Moving} {f : Shot} (v : Framed r s m f) whe
 
   pub running-on : {out : List ℕ} {x due : ℕ} → out ≡ sets (s .out) (s .at) (mixItem (f .mix)) → x ≡ later → due ≡ awayOf (units x)
       → Running r
-      (record { out = out; moving = m; converters = f .converters; units = x; due = due; left = s .left - s .due; at = s .at + 41; pending = 1 })
+      (record { out = out; phases = m; converters = f .converters; units = x; due = due; left = s .left - s .due; at = s .at + 41; pending = 1 })
   running-on {out} {x} {due} oe xe de =
       record {
         bytes = bytes;
         held = before .held;
-        settings = before .settings;
-        moving = moved-held (v .moved);
-        converters = rw (v .is) (shot-held (r .still) m (s .converters) (before .held) (moved-held (v .moved)) (before .converters));
+        frameSettings = before .frameSettings;
+        phases = moved-held (v .moved);
+        converters = rw (v .is) (frame-step-held (r .settings) m (s .converters) (before .held) (moved-held (v .moved)) (before .converters));
         below = rw (xe, before .next) (after-below (s .units) (before .below));
         next = de;
         few = fewer (s .pending) (s .left) (s .due) (due-some before) (v .due) (before .few);
@@ -315,7 +315,7 @@ module _ {r : Task} {s : State} {m : Moving} {f : Shot} (v : Framed r s m f) whe
             oe
             ∙ ap₂ (λ (y : List ℕ) (z : ℕ). sets y z (mixItem (f .mix))) (before .stored) (before .place)
             ∙ sym (sets-append (r .out) (r .start) (before .bytes) (mixItem (f .mix)));
-        same = ap (λ (y : ℕ). from (r .still) (s .left - s .due) y 1 m (f .converters) bytes) xe ∙ onward;
+        same = ap (λ (y : ℕ). from (r .settings) (s .left - s .due) y 1 m (f .converters) bytes) xe ∙ onward;
       }
     where
       placed : (at start n w : ℕ) → at ≡ start + n → w ≡ n + 41 → at + 41 ≡ start + w

@@ -20,7 +20,7 @@ use Rattle.apu_clock.specs.Sequencer.{lengthsClocked, sweepClocked, envelopesCl
 use Rattle.apu_run.specs.Working.{working, workingBytes, Take, workingOn}
 use Rattle.apu_run.specs.Owed.{metOf, fallen}
 use Rattle.apu_run.specs.declared.calls.Met.{Met}
-use Rattle.apu_run.proofs.Beats.{bitStored, halved, advanced-half, stored-half, beaten, callBy}
+use Rattle.apu_run.proofs.Beats.{bitStored, withHalves, advanced-half, stored-half, beaten, callBy}
 use Rattle.apu_run.proofs.Marks.{markedTake, working-marked, working-own, working-half, working-power, ran-marked, ran-own, ran-half, ran-power}
 
 -- ---- what storing a bit comes to: a step of the sequencer where it falls, else another bit at most
@@ -99,7 +99,7 @@ unfolding iterate
 beats bit n t = calm-beats bit n (beaten bit t) (stored-calm bit (working (t .apu)))
 
 -- ---- calls that see one bit: every two half-clocks are a working clock
-beaten-half : (bit : Bool) (t : Take) (h : ℕ) → beaten bit (halved t h) ≡ halved (beaten bit t) h
+beaten-half : (bit : Bool) (t : Take) (h : ℕ) → beaten bit (withHalves t h) ≡ withHalves (beaten bit t) h
 unfolding workingOn
 beaten-half bit t h =
     ap (λ (x : Take). record { apu = bitStored bit (x .apu); bytes = x .bytes }) (working-half t h)
@@ -114,16 +114,16 @@ few true = omega arith
 few false = omega arith
 
 called : (double bit : Bool) (k h : ℕ) (t : Take) → t .apu .«clocks_counter» ≡ h → h < 2
-    → let halves = h + gained double k in iterate k (callBy double bit) t ≡ halved (iterate (halves / 2) (beaten bit) t) (halves % 2)
+    → let halves = h + gained double k in iterate k (callBy double bit) t ≡ withHalves (iterate (halves / 2) (beaten bit) t) (halves % 2)
 called double bit k h t e small =
     rw (← gained-is double k, ← e)
-    (worked (λ (h : ℕ) (x : Take). halved x h) (callBy double bit) (beaten bit) d (few double) calls k (t .apu .«clocks_counter») t (rw (← e) at small))
+    (worked (λ (h : ℕ) (x : Take). withHalves x h) (callBy double bit) (beaten bit) d (few double) calls k (t .apu .«clocks_counter») t (rw (← e) at small))
   where
     d : ℕ
     d = halfClocksOf double
 
-    calls : (h : ℕ) (x : Take) → callBy double bit (halved x h) ≡ pick (ltb (h + d) 2) (halved x (h + d)) (halved (beaten bit x) (h + d - 2))
-    calls h x = ap (λ (t : Take). pick (ltb (h + d) 2) (halved x (h + d)) (halved t (h + d - 2))) (beaten-half bit x h)
+    calls : (h : ℕ) (x : Take) → callBy double bit (withHalves x h) ≡ pick (ltb (h + d) 2) (withHalves x (h + d)) (withHalves (beaten bit x) (h + d - 2))
+    calls h x = ap (λ (t : Take). pick (ltb (h + d) 2) (withHalves x (h + d)) (withHalves t (h + d - 2))) (beaten-half bit x h)
 
 -- ---- THE LAW: what calls that see one bit make of a unit that owes n working clocks, by `metOf`
 abbrev pub fallenTake : Take → Take
@@ -170,7 +170,7 @@ module _ (double bit : Bool) (k n : ℕ) (t : Take) (small : t .apu .«clocks_co
       ap (λ (x : Take). x .apu .«divider_sequencer_clock_bit») (working-own owing)
       ∙ ap (λ (x : Take). x .apu .«divider_sequencer_clock_bit») (ran-own n t)
 
-  met-first : iterate k (callBy double bit) owing ≡ halved (iterate (met .working) (beaten bit) owing) (met .half)
+  met-first : iterate k (callBy double bit) owing ≡ withHalves (iterate (met .working) (beaten bit) owing) (met .half)
   met-first = called double bit k (t .apu .«clocks_counter») owing (ap (λ (x : Take). x .apu .«clocks_counter») (ran-own n t)) small
 
   -- the bit does not fall: it is stored at once, and all are the run's
@@ -188,13 +188,13 @@ module _ (double bit : Bool) (k n : ℕ) (t : Take) (small : t .apu .«clocks_co
           ∙ ap₂ (λ (x y : Bool). withBit (onward .apu) (x || (y && bit))) onward-bit onward-power)
 
       go : (w : ℕ) → ((on && not (eqb w 0)) && (stored && not bit)) ≡ false
-          → halved (iterate w (beaten bit) owing) h ≡ iterate (n + w) workingOn (markedTake t h (stored || ((on && not (eqb w 0)) && bit)))
-      go zero e = rw (none on, or-none stored, add-zero n) (ap (λ (x : Take). halved x h) (ran-own n t) ∙ sym (ran-marked n t h stored))
+          → withHalves (iterate w (beaten bit) owing) h ≡ iterate (n + w) workingOn (markedTake t h (stored || ((on && not (eqb w 0)) && bit)))
+      go zero e = rw (none on, or-none stored, add-zero n) (ap (λ (x : Take). withHalves x h) (ran-own n t) ∙ sym (ran-marked n t h stored))
       go (suc w) e =
           let s : Bool = stored || (on && bit) in
           rw (some on w)
-          (ap (λ (x : Take). halved x h) (beats bit w owing ∙ ap (iterate w workingOn) (rises (rw (some on w) at e)))
-          ∙ ap (λ (x : Take). halved x h) (ran-marked w onward (onward .apu .«clocks_counter») s)
+          (ap (λ (x : Take). withHalves x h) (beats bit w owing ∙ ap (iterate w workingOn) (rises (rw (some on w) at e)))
+          ∙ ap (λ (x : Take). withHalves x h) (ran-marked w onward (onward .apu .«clocks_counter») s)
           ∙ sym (ran-marked w onward h s)
           ∙ sym (ap (iterate w workingOn) (working-marked owing h s))
           ∙ sym (ap (iterate (suc w) workingOn) (ran-marked n t h s))
@@ -218,14 +218,14 @@ module _ (double bit : Bool) (k n : ℕ) (t : Take) (small : t .apu .«clocks_co
           (stored-fell bit (onward .apu) (rw (onward-power, onward-bit) e))
 
       go : (w : ℕ) → ((on && not (eqb w 0)) && (stored && not bit)) ≡ true
-          → halved (iterate w (beaten bit) owing) h ≡ iterate (w - 1) workingOn (fallenTake (iterate (n + 1) workingOn (markedTake t h stored)))
+          → withHalves (iterate w (beaten bit) owing) h ≡ iterate (w - 1) workingOn (fallenTake (iterate (n + 1) workingOn (markedTake t h stored)))
       go zero e = let f : false ≡ true = rw (none on) at e in cc
       go (suc w) e =
-          ap (λ (x : Take). halved x h) (beats bit w owing ∙ ap (iterate w workingOn) (falls (rw (some on w) at e)))
+          ap (λ (x : Take). withHalves x h) (beats bit w owing ∙ ap (iterate w workingOn) (falls (rw (some on w) at e)))
           ∙ sym (ran-half w (fallenTake onward) h)
           ∙ ap (λ (x : Apu). iterate w workingOn (record { apu = x; bytes = onward .bytes })) (sym (advanced-half (withBit (onward .apu) false) h))
           ∙ ap₂ (λ (n : ℕ) (x : Take). iterate n workingOn (fallenTake x)) (less w)
-          (ap (λ (x : Take). halved x h) (sym (iterate-add n 1 workingOn t)) ∙ sym (ran-half (n + 1) t h))
+          (ap (λ (x : Take). withHalves x h) (sym (iterate-add n 1 workingOn t)) ∙ sym (ran-half (n + 1) t h))
 
 -- ---- the numbers by themselves: half a working clock is left at most, and a fall is seen by one
 pub met-half : (half : ℕ) (power stored double bit : Bool) (k : ℕ) → metOf half power stored double bit k .half ≤ 1

@@ -74,16 +74,16 @@ module _
 -- ---- how a turn's calls meet the unit: `some` of the n calls from call i on, which see one bit
 pub record Meets (double : Bool) (d : Divider) (a : Apu) (i n some n' : ℕ) (m : Met) : Type 0 where
   pub split : n ≡ some + n'
-  pub one : OneBit double d i some
+  pub sameBit : OneBit double d i some
   pub is : m ≡ metOf (a .«clocks_counter») (a .power) (a .«divider_sequencer_clock_bit») double (bitOf double (dividerAt d i)) some
 
 pub meets : {double : Bool} {d : Divider} {a : Apu} {i n some n' : ℕ} {m : Met} {bit : Bool} {v : ℕ}
     → n ≡ some + n' → OneBit double d i some → v ≡ dividerAt d i → bit ≡ bitOf double v
     → m ≡ metOf (a .«clocks_counter») (a .power) (a .«divider_sequencer_clock_bit») double bit some → Meets double d a i n some n' m
-meets {double} {a = a} {some = some} l one ve be me =
+meets {double} {a = a} {some = some} l sameBit ve be me =
     record {
       split = l;
-      one = one;
+      sameBit = sameBit;
       is = me ∙ ap (λ (b : Bool). metOf (a .«clocks_counter») (a .power) (a .«divider_sequencer_clock_bit») double b some) (be ∙ ap (bitOf double) ve);
     }
 
@@ -105,7 +105,7 @@ module _ {double : Bool} {d : Divider} {a : Apu} {i n some n' : ℕ} {m : Met} (
   by-calls =
       ap (λ (k : ℕ). rows double d i k (ranOf owed a)) (s .split)
       ∙ rows-split double d i some n' (ranOf owed a)
-      ∙ ap (rows double d (i + some) n') (by-bit double bit d i some (ranOf owed a) (s .one))
+      ∙ ap (rows double d (i + some) n') (by-bit double bit d i some (ranOf owed a) (s .sameBit))
 
   pub half-few : m .half ≤ 1
   half-few = rw (s .is) (met-half (a .«clocks_counter») (a .power) (a .«divider_sequencer_clock_bit») double bit some)

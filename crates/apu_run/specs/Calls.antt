@@ -60,5 +60,5 @@ afterClocks double divider i zero a = a
 afterClocks double divider i (suc k) a = afterClocks double divider (suc i) k (callUnit double (dividerAt divider i) a)
 
 -- the player's state after some playing: the unit, and the place so many bytes further
-abbrev pub moved : Play → Apu → List ℕ → Play
-moved p a bytes = record { apu = a; at = p .at + length bytes }
+abbrev pub further : Play → Apu → List ℕ → Play
+further p a bytes = record { apu = a; at = p .at + length bytes }

@@ -10,17 +10,17 @@ use Rattle.channel_wave.specs.Wave as wave
 use Rattle.channel_noise.specs.Noise as noise
 use Rattle.apu.specs.declared.Apu.{Apu}
 use Rattle.apu_run.specs.Working.{Take}
-use Rattle.apu_run.specs.Moving.{stillOf, movingOf, convertersOf, moveOf, putBack}
+use Rattle.apu_run.specs.Phases.{settingsOf, phasesOf, convertersOf, phasesClocked, putBack}
 use Rattle.apu_run.specs.declared.frames.Parts.{Parts}
 
 -- what was moved, and the place after the bytes (put back into the unit it is the unit after the run: `put-ran` of proofs/Rans.antt)
 abbrev pub partsOf : Take → ℕ → Parts
 partsOf t start =
-    record { moving = movingOf (t .apu); converters = convertersOf (t .apu); counter = t .apu .«sample_counter»; at = start + length (t .bytes) }
+    record { phases = phasesOf (t .apu); converters = convertersOf (t .apu); counter = t .apu .«sample_counter»; at = start + length (t .bytes) }
 
 -- a unit with its sample counter at so many units of 2^-48 and its channels so many clocks on
 abbrev pub behind : Apu → ℕ → ℕ → Apu
-behind a units clocks = putBack a (iterate clocks (moveOf (stillOf a)) (movingOf a)) (convertersOf a) (unitsOf binary64 48 units)
+behind a units clocks = putBack a (iterate clocks (phasesClocked (settingsOf a)) (phasesOf a)) (convertersOf a) (unitsOf binary64 48 units)
 
 -- "Muted is: channel off, or (not wave) volume 0": all four
 abbrev pub silentOf : Apu → Bool

@@ -7,12 +7,12 @@ ghost use lib.Seq.{sets};
 ghost use Rattle.clocks.specs.Metered.{gained};
 ghost use Rattle.apu.specs.Held.{Held, FloatsHeld};
 ghost use Rattle.apu_run.specs.Working.{ranOf};
-ghost use Rattle.apu_run.specs.Calls.{dividerAt, clocksBytes, afterClocks, moved};
+ghost use Rattle.apu_run.specs.Calls.{dividerAt, clocksBytes, afterClocks, further};
 ghost use Rattle.apu_run.specs.Owed.{changeOf, sameOf, OneBit, metOf, fallen};
 use crate::frames::rest;
 use crate::frames::silent;
 use crate::frames::sound;
-use crate::moving::put_back;
+use crate::phases::put_back;
 use apu::Apu;
 use apu_clock::sequencer::advance;
 use apu_clock::sequencer::sequencer_bit;
@@ -114,7 +114,7 @@ pub fn settle(p: Play, owed: u32, out: &mut [u8]) -> Play
     requires { ⌜ FloatsHeld (p .apu) ⌝ }
     requires { ⌜ owed ≤ 32767 ⌝ }
     requires { ⌜ p .at + length (ranOf owed (p .apu) .bytes) ≤ length (now out) ⌝ }
-    ensures { λ r. ⌜ r ≡ moved p (ranOf owed (p .apu) .apu) (ranOf owed (p .apu) .bytes) ⌝ }
+    ensures { λ r. ⌜ r ≡ further p (ranOf owed (p .apu) .apu) (ranOf owed (p .apu) .bytes) ⌝ }
     ensures { λ _. ⌜ now (out .exit) ≡ sets (now (out .entry)) (p .at) (ranOf owed (p .apu) .bytes) ⌝ }
 {
     let unit = p.apu;
@@ -123,7 +123,7 @@ pub fn settle(p: Play, owed: u32, out: &mut [u8]) -> Play
     } else {
         sound(unit, owed, out, p.at)
     };
-    let apu = put_back(unit, ran.moving, ran.converters, ran.counter);
+    let apu = put_back(unit, ran.phases, ran.converters, ran.counter);
     Play { apu, at: ran.at }
 }
 
@@ -133,7 +133,7 @@ pub fn fall(p: Play, owed: u32, out: &mut [u8]) -> Play
     requires { ⌜ FloatsHeld (p .apu) ⌝ }
     requires { ⌜ owed ≤ 32767 ⌝ }
     requires { ⌜ p .at + length (ranOf owed (p .apu) .bytes) ≤ length (now out) ⌝ }
-    ensures { λ r. ⌜ r ≡ moved p (fallen (ranOf owed (p .apu) .apu)) (ranOf owed (p .apu) .bytes) ⌝ }
+    ensures { λ r. ⌜ r ≡ further p (fallen (ranOf owed (p .apu) .apu)) (ranOf owed (p .apu) .bytes) ⌝ }
     ensures { λ _. ⌜ now (out .exit) ≡ sets (now (out .entry)) (p .at) (ranOf owed (p .apu) .bytes) ⌝ }
 {
     let q = settle(p, owed, out);
@@ -159,7 +159,7 @@ pub fn play_clocks(
     requires { ⌜ FloatsHeld (p .apu) ⌝ }
     requires { ⌜ to - from ≤ 16384 ⌝ }
     requires { ⌜ p .at + length (clocksBytes double divider from (to - from) (p .apu)) ≤ length (now out) ⌝ }
-    ensures { λ r. ⌜ r ≡ moved p (afterClocks double divider from (to - from) (p .apu)) (clocksBytes double divider from (to - from) (p .apu)) ⌝ }
+    ensures { λ r. ⌜ r ≡ further p (afterClocks double divider from (to - from) (p .apu)) (clocksBytes double divider from (to - from) (p .apu)) ⌝ }
     ensures { λ _. ⌜ now (out .exit) ≡ sets (now (out .entry)) (p .at) (clocksBytes double divider from (to - from) (p .apu)) ⌝ }
 {
     let mut apu = p.apu;

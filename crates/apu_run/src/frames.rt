@@ -10,13 +10,13 @@ ghost use Rattle.clocks.specs.Calls.{K};
 ghost use Rattle.apu.specs.Held.{Held, FloatsHeld};
 ghost use Rattle.apu_run.specs.Working.{ranOf};
 ghost use Rattle.apu_run.specs.Parts.{silentOf, behind, partsOf};
-use crate::moving::Converters;
-use crate::moving::Moving;
-use crate::moving::converters_of;
-use crate::moving::moving_of;
-use crate::moving::still_of;
-use crate::settings::settings_of;
-use crate::shot::shoot;
+use crate::frame_settings::frame_settings_of;
+use crate::frame_step::step_frame;
+use crate::phases::Converters;
+use crate::phases::Phases;
+use crate::phases::converters_of;
+use crate::phases::phases_of;
+use crate::phases::settings_of;
 use apu::Apu;
 use clocks::distance::counter_of;
 use clocks::distance::later;
@@ -28,7 +28,7 @@ use log_items::items::put_silence;
 
 // What a run moved, to be put back into its unit, and the place after its bytes. (The unit itself, handed back whole, would be copied twice.)
 pub struct Parts {
-    pub moving: Moving,
+    pub phases: Phases,
     pub converters: Converters,
     pub counter: f64,
     pub at: usize,
@@ -62,11 +62,11 @@ fn sound_from(
     ensures { λ r. ⌜ r ≡ partsOf (ranOf count (behind unit ahead waiting)) start ⌝ }
     ensures { λ _. ⌜ now (out .exit) ≡ sets (now (out .entry)) start (ranOf count (behind unit ahead waiting) .bytes) ⌝ }
 {
-    let still = still_of(unit);
-    let settings = settings_of(still);
-    let wave = still.wave;
+    let settings = settings_of(unit);
+    let frame_settings = frame_settings_of(settings);
+    let wave = settings.wave;
     let ram = wave.buffer;
-    let mut moving = moving_of(unit);
+    let mut phases = phases_of(unit);
     let mut converters = converters_of(unit);
     let mut units = ahead;
     let mut due = until(units);
@@ -75,19 +75,19 @@ fn sound_from(
     // after a frame 1: the channels' clock of the frame's own call comes after the frame
     let mut pending = waiting;
     loop {
-        moving = moving.advance(still, pending + before_frame(due, left));
+        phases = phases.advance(settings, pending + before_frame(due, left));
         if left < due {
             let counter = counter_of(later(units, left));
             return Parts {
-                moving,
+                phases,
                 converters,
                 counter,
                 at,
             };
         }
-        let shot = shoot(settings, moving, converters, &ram);
-        put_mix(out, at, shot.mix);
-        converters = shot.converters;
+        let step = step_frame(frame_settings, phases, converters, &ram);
+        put_mix(out, at, step.mix);
+        converters = step.converters;
         at += 41;
         units = past_frame(units, due);
         left -= due;

@@ -56,9 +56,9 @@ module _ (g : PulseGroup) (h : pulse.Held g) where
         channel = pulse-on-held _ (pulse-frequency-held (g .channel) (h .channel) _ (high-le (g .channel .frequency) v)) _;
       }
 
-  pub pulse-started-held : (even : Bool) → pulse.Held (pulse.started g even)
-  unfolding pulse.started
-  pulse-started-held even = record { length = length-triggered-held 64 (g .length) (h .length) even; channel = pulse-triggered-held (g .channel) (h .channel) }
+  pub pulse-group-triggered-held : (even : Bool) → pulse.Held (pulse.triggered g even)
+  unfolding pulse.triggered
+  pulse-group-triggered-held even = record { length = length-triggered-held 64 (g .length) (h .length) even; channel = pulse-triggered-held (g .channel) (h .channel) }
 
   pub pulse-group-clocked-held : pulse.Held (pulse.clocked g)
   unfolding pulse.clocked
@@ -98,7 +98,7 @@ module _ (g : PulseGroup) (h : pulse.Held g) where
 
 pulse-controlled-held : (g : PulseGroup) (even : Bool) (v : ℕ) → pulse.Held g → pulse.Held (pulse.controlled g even v)
 unfolding pulse.controlled
-pulse-controlled-held g even v h = both-ways pulse.Held _ (pulse-started-held _ (pulse-readied-held g h even v) even) (pulse-readied-held g h even v)
+pulse-controlled-held g even v h = both-ways pulse.Held _ (pulse-group-triggered-held _ (pulse-readied-held g h even v) even) (pulse-readied-held g h even v)
 
 pub pulse-written-held : (g : PulseGroup) (at : ℕ) (power even : Bool) (v : ℕ) → v ≤ 255 → pulse.Held g → pulse.Held (pulse.written g at power even v)
 unfolding pulse.written
@@ -137,9 +137,9 @@ module _ (g : WaveGroup) (h : wave.Held g) where
         channel = wave-on-held _ (wave-frequency-held (g .channel) (h .channel) _ (high-le (g .channel .frequency) v)) _;
       }
 
-  pub wave-started-held : (dmg even : Bool) → wave.Held (wave.started g dmg even)
-  unfolding wave.started
-  wave-started-held dmg even = record { length = length-triggered-held 256 (g .length) (h .length) even; channel = wave-triggered-held (g .channel) (h .channel) dmg }
+  pub wave-group-triggered-held : (dmg even : Bool) → wave.Held (wave.triggered g dmg even)
+  unfolding wave.triggered
+  wave-group-triggered-held dmg even = record { length = length-triggered-held 256 (g .length) (h .length) even; channel = wave-triggered-held (g .channel) (h .channel) dmg }
 
   pub wave-ram-held : (dmg : Bool) (offset v : ℕ) → wave.Held (wave.ramWritten g dmg offset v)
   unfolding wave.ramWritten
@@ -175,7 +175,7 @@ module _ (g : WaveGroup) (h : wave.Held g) where
 
 wave-controlled-held : (g : WaveGroup) (dmg even : Bool) (v : ℕ) → wave.Held g → wave.Held (wave.controlled g dmg even v)
 unfolding wave.controlled
-wave-controlled-held g dmg even v h = both-ways wave.Held _ (wave-started-held _ (wave-readied-held g h even v) dmg even) (wave-readied-held g h even v)
+wave-controlled-held g dmg even v h = both-ways wave.Held _ (wave-group-triggered-held _ (wave-readied-held g h even v) dmg even) (wave-readied-held g h even v)
 
 pub wave-written-held : (g : WaveGroup) (at : ℕ) (dmg even : Bool) (v : ℕ) → v ≤ 255 → wave.Held g → wave.Held (wave.written g at dmg even v)
 unfolding wave.written
@@ -207,9 +207,9 @@ module _ (g : NoiseGroup) (h : noise.Held g) where
   unfolding noise.readied
   noise-readied-held even v = record { length = length-enabling-held 64 (g .length) _ even (h .length); channel = noise-on-held (g .channel) (h .channel) _ }
 
-  pub noise-started-held : (even : Bool) → noise.Held (noise.started g even)
-  unfolding noise.started
-  noise-started-held even = record { length = length-triggered-held 64 (g .length) (h .length) even; channel = noise-triggered-held (g .channel) (h .channel) }
+  pub noise-group-triggered-held : (even : Bool) → noise.Held (noise.triggered g even)
+  unfolding noise.triggered
+  noise-group-triggered-held even = record { length = length-triggered-held 64 (g .length) (h .length) even; channel = noise-triggered-held (g .channel) (h .channel) }
 
   pub noise-group-clocked-held : noise.Held (noise.clocked g)
   unfolding noise.clocked
@@ -241,7 +241,7 @@ module _ (g : NoiseGroup) (h : noise.Held g) where
 
 noise-controlled-held : (g : NoiseGroup) (even : Bool) (v : ℕ) → noise.Held g → noise.Held (noise.controlled g even v)
 unfolding noise.controlled
-noise-controlled-held g even v h = both-ways noise.Held _ (noise-started-held _ (noise-readied-held g h even v) even) (noise-readied-held g h even v)
+noise-controlled-held g even v h = both-ways noise.Held _ (noise-group-triggered-held _ (noise-readied-held g h even v) even) (noise-readied-held g h even v)
 
 pub noise-written-group-held : (g : NoiseGroup) (at : ℕ) (even : Bool) (v : ℕ) → v ≤ 255 → noise.Held g → noise.Held (noise.written g at even v)
 unfolding noise.written

@@ -63,12 +63,12 @@ readied g even value =
     }
 
 -- a trigger: of the length record ("A trigger with counter 0 sets the maximum"), and of the channel
-unfoldable pub started : NoiseGroup → Bool → NoiseGroup
-started g even = record { converter = g .converter; length = length.triggered (g .length) even; channel = channel.triggered (g .channel) }
+unfoldable pub triggered : NoiseGroup → Bool → NoiseGroup
+triggered g even = record { converter = g .converter; length = length.triggered (g .length) even; channel = channel.triggered (g .channel) }
 
 -- a write of FF23
 unfoldable pub controlled : NoiseGroup → Bool → ℕ → NoiseGroup
-controlled g even value = pick (triggerOf value) (started (readied g even value) even) (readied g even value)
+controlled g even value = pick (triggerOf value) (triggered (readied g even value) even) (readied g even value)
 
 -- a write at an offset in the five registers; at 0 nothing, since FF1F is unused
 unfoldable pub written : NoiseGroup → ℕ → Bool → ℕ → NoiseGroup

@@ -72,12 +72,12 @@ readied g even value =
     }
 
 -- a trigger: of the length record ("A trigger with counter 0 sets the maximum"), and of the channel
-unfoldable pub started : PulseGroup → Bool → PulseGroup
-started g even = record { converter = g .converter; length = length.triggered (g .length) even; channel = channel.triggered (g .channel) }
+unfoldable pub triggered : PulseGroup → Bool → PulseGroup
+triggered g even = record { converter = g .converter; length = length.triggered (g .length) even; channel = channel.triggered (g .channel) }
 
 -- a write of FFx4
 unfoldable pub controlled : PulseGroup → Bool → ℕ → PulseGroup
-controlled g even value = pick (triggerOf value) (started (readied g even value) even) (readied g even value)
+controlled g even value = pick (triggerOf value) (triggered (readied g even value) even) (readied g even value)
 
 -- a write at an offset in the five registers; at 0 nothing, since FF10 is `sweepWritten` and FF15 is unused
 unfoldable pub written : PulseGroup → ℕ → Bool → Bool → ℕ → PulseGroup

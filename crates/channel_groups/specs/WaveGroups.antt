@@ -66,12 +66,12 @@ readied g even value =
     }
 
 -- a trigger: of the length record ("A trigger with counter 0 sets the maximum"), and of the channel
-unfoldable pub started : WaveGroup → Bool → Bool → WaveGroup
-started g dmg even = record { converter = g .converter; length = length.triggered (g .length) even; channel = channel.triggered (g .channel) dmg }
+unfoldable pub triggered : WaveGroup → Bool → Bool → WaveGroup
+triggered g dmg even = record { converter = g .converter; length = length.triggered (g .length) even; channel = channel.triggered (g .channel) dmg }
 
 -- a write of FF1E
 unfoldable pub controlled : WaveGroup → Bool → Bool → ℕ → WaveGroup
-controlled g dmg even value = pick (triggerOf value) (started (readied g even value) dmg even) (readied g even value)
+controlled g dmg even value = pick (triggerOf value) (triggered (readied g even value) dmg even) (readied g even value)
 
 -- a write at an offset in the five registers
 unfoldable pub written : WaveGroup → ℕ → Bool → Bool → ℕ → WaveGroup

@@ -1,6 +1,6 @@
 // The noise with its length record and its converter.
 ghost use mathlib.Core.Path.{_≡_};
-ghost use Rattle.channel_groups.specs.NoiseGroups.{Held, fresh, readied, started, controlled, written, byteOf, clocked, lengthClocked, refilled, silenced, sounded, lengthWritten, envelopeWritten, noiseWritten, envelopeClocked};
+ghost use Rattle.channel_groups.specs.NoiseGroups.{Held, fresh, readied, triggered, controlled, written, byteOf, clocked, lengthClocked, refilled, silenced, sounded, lengthWritten, envelopeWritten, noiseWritten, envelopeClocked};
 use crate::bits::control_byte;
 use channel_noise::noise_channel::NoiseChannel;
 use channel_parts::length::Length;
@@ -82,7 +82,7 @@ impl NoiseGroup {
     // A trigger: of the length, then of the channel.
     fn start(self, even: bool) -> NoiseGroup
         requires { ⌜ Held self ⌝ }
-        ensures { λ r. ⌜ r ≡ started self even ⌝ }
+        ensures { λ r. ⌜ r ≡ triggered self even ⌝ }
     {
         let length = self.length;
         let channel = self.channel;

@@ -1,7 +1,7 @@
 // A pulse with its length record and its converter.
 ghost use mathlib.Core.Path.{_≡_};
 ghost use Prim.Native.Nat.{_≤_};
-ghost use Rattle.channel_groups.specs.PulseGroups.{Held, fresh, readied, started, controlled, written, byteOf, clocked, lengthClocked, refilled, silenced, sounded, sweepWritten, lengthWritten, envelopeWritten, tuned, sweepClocked, envelopeClocked, rewound};
+ghost use Rattle.channel_groups.specs.PulseGroups.{Held, fresh, readied, triggered, controlled, written, byteOf, clocked, lengthClocked, refilled, silenced, sounded, sweepWritten, lengthWritten, envelopeWritten, tuned, sweepClocked, envelopeClocked, rewound};
 use crate::bits::control_byte;
 use crate::bits::high_written;
 use crate::bits::low_written;
@@ -102,7 +102,7 @@ impl PulseGroup {
     // A trigger: of the length, then of the channel.
     fn start(self, even: bool) -> PulseGroup
         requires { ⌜ Held self ⌝ }
-        ensures { λ r. ⌜ r ≡ started self even ⌝ }
+        ensures { λ r. ⌜ r ≡ triggered self even ⌝ }
     {
         let length = self.length;
         let channel = self.channel;

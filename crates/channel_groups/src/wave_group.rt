@@ -1,6 +1,6 @@
 // The wave with its length record and its converter.
 ghost use mathlib.Core.Path.{_≡_};
-ghost use Rattle.channel_groups.specs.WaveGroups.{Held, fresh, readied, started, controlled, written, byteOf, clocked, lengthClocked, refilled, silenced, sounded, dacWritten, lengthWritten, volumeWritten, tuned, ramWritten, rewound};
+ghost use Rattle.channel_groups.specs.WaveGroups.{Held, fresh, readied, triggered, controlled, written, byteOf, clocked, lengthClocked, refilled, silenced, sounded, dacWritten, lengthWritten, volumeWritten, tuned, ramWritten, rewound};
 use crate::bits::control_byte;
 use crate::bits::high_written;
 use crate::bits::low_written;
@@ -96,7 +96,7 @@ impl WaveGroup {
     // A trigger: of the length, then of the channel.
     fn start(self, dmg: bool, even: bool) -> WaveGroup
         requires { ⌜ Held self ⌝ }
-        ensures { λ r. ⌜ r ≡ started self dmg even ⌝ }
+        ensures { λ r. ⌜ r ≡ triggered self dmg even ⌝ }
     {
         let length = self.length;
         let channel = self.channel;

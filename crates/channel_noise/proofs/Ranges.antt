@@ -40,7 +40,7 @@ module _ (n : NoiseChannel) (h : noise.Held n) where
   pub noise-dac-held : (dac : Bool) → noise.Held (noise.dacSet n dac)
   noise-dac-held dac = record { shift = h .shift; code = h .code; timer = h .timer; register = h .register; envelope = h .envelope }
 
-  pub noise-moved-held : (register timer : ℕ) → register ≤ 0x7FFF → timer ≤ 16383 → noise.Held (with.moved n register timer)
+  pub noise-moved-held : (register timer : ℕ) → register ≤ 0x7FFF → timer ≤ 16383 → noise.Held (with.withRegisterAndTimer n register timer)
   noise-moved-held register timer a b = record { shift = h .shift; code = h .code; timer = b; register = a; envelope = h .envelope }
 
   pub noise-clocked-held : noise.Held (noise.clocked n)

@@ -4,7 +4,7 @@ use mathlib.Core.Bool.{Bool, false, not, _&&_, _||_}
 use lib.Dec.{eqb, leb}
 use Rattle.ground.specs.Pick.{pick}
 use Rattle.channel_parts.specs.Envelope as envelope
-use Rattle.channel_noise.specs.With.{withNoise, moved, withEnvelope, withOn, withDac}
+use Rattle.channel_noise.specs.With.{withNoise, withRegisterAndTimer, withEnvelope, withOn, withDac}
 use Rattle.channel_noise.specs.declared.noise_channel.NoiseChannel.{NoiseChannel}
 
 -- "Ranges held from the start": noise timer 0..16383, noise register 0..7FFF; the bits of shift and code
@@ -71,8 +71,8 @@ steppedRegister register narrow =
 unfoldable pub clocked : NoiseChannel → NoiseChannel
 clocked n =
     pick (eqb (n .«frequency_timer») 0)
-    (moved n (steppedRegister (n .«feedback_shift_register») (n .«step_mode_7_bits»)) (reloadOf n))
-    (moved n (n .«feedback_shift_register») (n .«frequency_timer» - 1))
+    (withRegisterAndTimer n (steppedRegister (n .«feedback_shift_register») (n .«step_mode_7_bits»)) (reloadOf n))
+    (withRegisterAndTimer n (n .«feedback_shift_register») (n .«frequency_timer» - 1))
 
 -- "A trigger turns the channel on if its DAC is on"; "A trigger sets the register to 7FFF and not the timer"
 unfoldable pub triggered : NoiseChannel → NoiseChannel

@@ -19,8 +19,8 @@ withNoise n shift narrow code =
     }
 
 -- another register and timer
-abbrev pub moved : NoiseChannel → ℕ → ℕ → NoiseChannel
-moved n register timer =
+abbrev pub withRegisterAndTimer : NoiseChannel → ℕ → ℕ → NoiseChannel
+withRegisterAndTimer n register timer =
     record {
       «shift_clock_frequency» = n .«shift_clock_frequency»;
       «step_mode_7_bits» = n .«step_mode_7_bits»;

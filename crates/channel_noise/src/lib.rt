@@ -1,3 +1,4 @@
 // The noise channel: a record taken by value, each method handing back the next one.
-pub mod hiss; // hiss.rt: what the clocks of a noise move, many clocks at once
-pub mod noise_channel; // noise_channel.rt: the 15-bit register
+pub mod feedback; // feedback.rt: the 15-bit register, many steps at once
+pub mod noise_channel; // noise_channel.rt: divisor, timer, register and envelope
+pub mod phase; // phase.rt: what its clocks move, many clocks at once

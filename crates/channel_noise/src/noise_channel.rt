@@ -3,8 +3,8 @@ ghost use mathlib.Core.Path.{_≡_};
 ghost use Prim.Native.Nat.{_≤_, _*_, _%_, _^_};
 ghost use Rattle.channel_noise.specs.Noise.{Held, fresh, written, byteOf, dacSet, enveloped, divisorOf, reloadOf, feedbackOf, putBit, steppedRegister, clocked, triggered, outputOf, mutedOf};
 ghost use Rattle.channel_noise.specs.With.{withOn};
-ghost use Rattle.channel_noise.specs.Hiss.{HissHeld, hissOf, withHiss};
-use crate::hiss::Hiss;
+ghost use Rattle.channel_noise.specs.Phase.{NoisePhaseHeld, noisePhaseOf, withNoisePhase};
+use crate::phase::NoisePhase;
 use channel_parts::envelope::Envelope;
 use ground::num::flag;
 use ground::num::flag16;
@@ -164,23 +164,23 @@ impl NoiseChannel {
     }
 
     // What its clocks move.
-    pub fn hiss(self) -> Hiss
-        ensures { λ r. ⌜ r ≡ hissOf self ⌝ }
+    pub fn phase(self) -> NoisePhase
+        ensures { λ r. ⌜ r ≡ noisePhaseOf self ⌝ }
     {
-        Hiss {
+        NoisePhase {
             feedback_shift_register: self.feedback_shift_register as u32,
             frequency_timer: self.frequency_timer as u32,
         }
     }
 
     // The channel with this as what its clocks move.
-    pub fn with_hiss(self, hiss: Hiss) -> NoiseChannel
-        requires { ⌜ HissHeld hiss ⌝ }
-        ensures { λ r. ⌜ r ≡ withHiss self hiss ⌝ }
+    pub fn with_phase(self, phase: NoisePhase) -> NoiseChannel
+        requires { ⌜ NoisePhaseHeld phase ⌝ }
+        ensures { λ r. ⌜ r ≡ withNoisePhase self phase ⌝ }
     {
         let mut next = self;
-        next.feedback_shift_register = hiss.feedback_shift_register as u16;
-        next.frequency_timer = hiss.frequency_timer as u16;
+        next.feedback_shift_register = phase.feedback_shift_register as u16;
+        next.frequency_timer = phase.frequency_timer as u16;
         next
     }
 
@@ -200,15 +200,15 @@ impl NoiseChannel {
     pub fn output(self) -> u8
         ensures { λ r. ⌜ r ≡ outputOf self ⌝ }
     {
-        self.output_at(self.hiss())
+        self.output_at(self.phase())
     }
 
     // The same, where the clocks came to this.
-    pub fn output_at(self, hiss: Hiss) -> u8
-        ensures { λ r. ⌜ r ≡ outputOf (withHiss self hiss) ⌝ }
+    pub fn output_at(self, phase: NoisePhase) -> u8
+        ensures { λ r. ⌜ r ≡ outputOf (withNoisePhase self phase) ⌝ }
     {
         let volume = self.envelope.current_volume;
-        let sounds = self.channel_enabled & (hiss.feedback_shift_register % 2 == 0);
+        let sounds = self.channel_enabled & (phase.feedback_shift_register % 2 == 0);
         flag(sounds, volume)
     }
 

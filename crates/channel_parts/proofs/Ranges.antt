@@ -5,7 +5,7 @@ use Prim.Native.Nat.{ℕ, _+_, _-_, _≤_}
 use native.Mathlib.Omega.{arith}
 use borrow.Author.Tests.{ltb-true}
 use lib.Dec.{eqb, ltb}
-use Rattle.ground.specs.Num.{reloadOf}
+use Rattle.ground.specs.Num.{zeroAsEight}
 use Rattle.ground.proofs.Cases.{pick-holds, both-ways}
 use Rattle.channel_parts.specs.Envelope as envelope
 use Rattle.channel_parts.specs.Length as length
@@ -13,8 +13,8 @@ use Rattle.channel_parts.specs.declared.envelope.Envelope.{Envelope}
 use Rattle.channel_parts.specs.declared.length.Length.{Length}
 use Rattle.channel_parts.specs.declared.length.Clocked.{Clocked}
 
-pub reload-le : (p : ℕ) → p ≤ 7 → reloadOf p ≤ 8
-unfolding reloadOf
+pub reload-le : (p : ℕ) → p ≤ 7 → zeroAsEight p ≤ 8
+unfolding zeroAsEight
 reload-le p h = both-ways (λ (n : ℕ). n ≤ 8) (eqb p 0) (omega arith) (omega arith)
 
 -- ---- the envelope
@@ -50,7 +50,7 @@ counter-held e n h k = record { starting = h .starting; current = h .current; pe
 pub envelope-clocked-held : (e : Envelope) → envelope.Held e → envelope.Held (envelope.clocked e)
 unfolding envelope.clocked envelope.expired
 envelope-clocked-held e h =
-    let next = counter-held e (reloadOf (e .period)) h (reload-le (e .period) (h .period)) in
+    let next = counter-held e (zeroAsEight (e .period)) h (reload-le (e .period) (h .period)) in
     both-ways envelope.Held _ (both-ways envelope.Held _ (stepped-held _ next) next) (counter-held e (e .counter - 1) h (omega arith))
 
 -- ---- the length record, of any maximum

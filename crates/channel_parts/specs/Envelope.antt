@@ -3,7 +3,7 @@ use Prim.Native.Nat.{ℕ, _+_, _-_, _*_, _/_, _%_, _≤_}
 use mathlib.Core.Bool.{Bool, true, false, not, _&&_}
 use lib.Dec.{eqb, ltb}
 use Rattle.ground.specs.Pick.{pick}
-use Rattle.ground.specs.Num.{reloadOf}
+use Rattle.ground.specs.Num.{zeroAsEight}
 use Rattle.channel_parts.specs.declared.envelope.Envelope.{Envelope}
 
 -- "Ranges held from the start": volumes 0..15, envelope counters 0..8; the period's three bits
@@ -85,7 +85,7 @@ runs e = e .«envelope_can_run» && not (eqb (e .period) 0)
 -- "at 0 it reloads (0 as 8) and, if running with a nonzero period, steps"
 unfoldable pub expired : Envelope → Envelope
 expired e =
-    let next = withCounter e (reloadOf (e .period)) in
+    let next = withCounter e (zeroAsEight (e .period)) in
     pick (runs e) (stepped next) next
 
 -- "A clock takes 1 off, not below 0"

@@ -1,3 +1,3 @@
 -- The laws of a pulse channel. Assumes nothing.
 pub mod Ranges
-pub mod Tones
+pub mod Phases

@@ -39,9 +39,9 @@ checked-held : (s : Sweep) → sweep.Held s → sweep.Held (sweep.checked s .swe
 unfolding sweep.checked
 checked-held s h = calculated-held s h
 
-pub started-held : (s : Sweep) (f : ℕ) → sweep.Held s → f ≤ 2047 → sweep.Held (sweep.started s f)
-unfolding sweep.started
-started-held s f h k = record { period = h .period; time = reload-le (s .period) (h .period); shadow = k; shift = h .shift }
+pub sweep-started-held : (s : Sweep) (f : ℕ) → sweep.Held s → f ≤ 2047 → sweep.Held (sweep.sweepStarted s f)
+unfolding sweep.sweepStarted
+sweep-started-held s f h k = record { period = h .period; time = reload-le (s .period) (h .period); shadow = k; shift = h .shift }
 
 stored-held : (s : Sweep) (f : ℕ) → sweep.Held s → f ≤ 2047 → SweptHeld (sweep.stored s f)
 unfolding sweep.stored
@@ -66,7 +66,7 @@ sweep-clocked-held s f h k =
 pub sweep-triggered-held : (s : Sweep) (f : ℕ) → sweep.Held s → f ≤ 2047 → sweep.Held (sweep.triggered s f .sweep)
 unfolding sweep.triggered
 sweep-triggered-held s f h k =
-    let next = started-held s f h k in
+    let next = sweep-started-held s f h k in
     both-ways (λ (r : Checked). sweep.Held (r .sweep)) _ next (checked-held _ next)
 
 -- ---- a pulse

@@ -3,7 +3,7 @@ use Prim.Native.Nat.{ℕ, _+_, _-_, _*_, _/_, _%_, _^_, _≤_}
 use mathlib.Core.Bool.{false, not, _&&_, _||_}
 use lib.Dec.{eqb, ltb, leb}
 use Rattle.ground.specs.Pick.{pick}
-use Rattle.ground.specs.Num.{reloadOf}
+use Rattle.ground.specs.Num.{zeroAsEight}
 use Rattle.channel_pulse.specs.With.{withTime, withShadow, flagged}
 use Rattle.channel_pulse.specs.declared.sweep.Sweep.{Sweep}
 use Rattle.channel_pulse.specs.declared.sweep.Checked.{Checked}
@@ -43,7 +43,7 @@ byteOf s = s .period % 8 * 16 + pick (s .negate) 8 0 + s .«shift_n» % 8
 
 -- "reloads the counter (period, 0 as 8)"
 unfoldable pub reloaded : Sweep → Sweep
-reloaded s = withTime s (reloadOf (s .period))
+reloaded s = withTime s (zeroAsEight (s .period))
 
 -- "shadow plus or minus shadow shifted"
 unfoldable pub targetOf : Sweep → ℕ
@@ -88,11 +88,11 @@ clocked s frequency =
     (record { sweep = withTime s (s .«current_time» - 1); frequency = frequency; off = false })
 
 -- "A trigger copies the frequency to the shadow, reloads the counter (period, 0 as 8), enables if period or shift is nonzero, clears the "calculated" flag"
-unfoldable pub started : Sweep → ℕ → Sweep
-started s frequency =
+unfoldable pub sweepStarted : Sweep → ℕ → Sweep
+sweepStarted s frequency =
     record {
       period = s .period;
-      «current_time» = reloadOf (s .period);
+      «current_time» = zeroAsEight (s .period);
       «internal_enable» = not (eqb (s .period) 0) || not (eqb (s .«shift_n») 0);
       «frequency_shadow» = frequency;
       negate = s .negate;
@@ -104,5 +104,5 @@ started s frequency =
 unfoldable pub triggered : Sweep → ℕ → Checked
 triggered s frequency =
     pick (eqb (s .«shift_n») 0)
-    (record { sweep = started s frequency; off = false })
-    (checked (started s frequency))
+    (record { sweep = sweepStarted s frequency; off = false })
+    (checked (sweepStarted s frequency))

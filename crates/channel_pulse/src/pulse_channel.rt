@@ -2,9 +2,9 @@
 ghost use mathlib.Core.Path.{_≡_};
 ghost use Rattle.channel_pulse.specs.Pulse.{Held, fresh, dutyWritten, dacSet, sweepWritten, enveloped, ticked, clocked, sweepClocked, triggered, dutyRow, outputOf, mutedOf};
 ghost use Rattle.channel_pulse.specs.With.{withPosition, withFrequency, withOn};
-ghost use Rattle.channel_pulse.specs.Tone.{ToneHeld, toneOf, withTone};
+ghost use Rattle.channel_pulse.specs.Phase.{PulsePhaseHeld, pulsePhaseOf, withPulsePhase};
+use crate::phase::PulsePhase;
 use crate::sweep::Sweep;
-use crate::tone::Tone;
 use channel_parts::envelope::Envelope;
 use ground::num::flag;
 
@@ -150,24 +150,24 @@ impl PulseChannel {
     }
 
     // What its clocks move.
-    pub fn tone(self) -> Tone
+    pub fn phase(self) -> PulsePhase
         requires { ⌜ Held self ⌝ }
-        ensures { λ r. ⌜ r ≡ toneOf self ⌝ }
+        ensures { λ r. ⌜ r ≡ pulsePhaseOf self ⌝ }
     {
-        Tone {
+        PulsePhase {
             sequencer_position: self.sequencer_position as u32,
             frequency_timer: self.frequency_timer as u32,
         }
     }
 
     // The channel with that as it stands after some clocks.
-    pub fn with_tone(self, tone: Tone) -> PulseChannel
-        requires { ⌜ ToneHeld tone ⌝ }
-        ensures { λ r. ⌜ r ≡ withTone self tone ⌝ }
+    pub fn with_phase(self, phase: PulsePhase) -> PulseChannel
+        requires { ⌜ PulsePhaseHeld phase ⌝ }
+        ensures { λ r. ⌜ r ≡ withPulsePhase self phase ⌝ }
     {
         let mut next = self;
-        next.sequencer_position = tone.sequencer_position as usize;
-        next.frequency_timer = tone.frequency_timer as u16;
+        next.sequencer_position = phase.sequencer_position as usize;
+        next.frequency_timer = phase.frequency_timer as u16;
         next
     }
 
@@ -209,14 +209,14 @@ impl PulseChannel {
         }
     }
 
-    // What goes to the converter with the position as in `tone`: 0 with the channel off, else the duty bit there times the volume.
-    pub fn output_at(self, tone: Tone) -> u8
-        requires { ⌜ ToneHeld tone ⌝ }
-        ensures { λ r. ⌜ r ≡ outputOf (withTone self tone) ⌝ }
+    // What goes to the converter with the position as in `phase`: 0 with the channel off, else the duty bit there times the volume.
+    pub fn output_at(self, phase: PulsePhase) -> u8
+        requires { ⌜ PulsePhaseHeld phase ⌝ }
+        ensures { λ r. ⌜ r ≡ outputOf (withPulsePhase self phase) ⌝ }
     {
         let volume = self.envelope.current_volume;
         let row = duty_row(self.duty);
-        let bit = (row >> (7 - tone.sequencer_position)) % 2;
+        let bit = (row >> (7 - phase.sequencer_position)) % 2;
         flag(self.channel_enabled & (bit == 1), volume)
     }
 
@@ -225,7 +225,7 @@ impl PulseChannel {
         requires { ⌜ Held self ⌝ }
         ensures { λ r. ⌜ r ≡ outputOf self ⌝ }
     {
-        self.output_at(self.tone())
+        self.output_at(self.phase())
     }
 
     // Whether the converter stands still: channel off, or volume 0.

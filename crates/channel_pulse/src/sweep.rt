@@ -1,7 +1,7 @@
 // The frequency sweep of pulse 1: the `sweep_` fields of `PulseChannel` in pulse_channel.rs. Pulse 2 has one too, which stays at rest.
 ghost use mathlib.Core.Path.{_≡_};
 ghost use Prim.Native.Nat.{_≤_};
-ghost use Rattle.channel_pulse.specs.Sweep.{Held, fresh, written, byteOf, reloaded, targetOf, calculated, checked, stored, updated, expired, clocked, started, triggered};
+ghost use Rattle.channel_pulse.specs.Sweep.{Held, fresh, written, byteOf, reloaded, targetOf, calculated, checked, stored, updated, expired, clocked, sweepStarted, triggered};
 use ground::num::flag;
 use ground::num::reload;
 use ground::num::saturating_sub;
@@ -192,7 +192,7 @@ impl Sweep {
 
     // The sweep as a trigger starts it, before the calculation.
     fn start(self, frequency: u16) -> Sweep
-        ensures { λ r. ⌜ r ≡ started self frequency ⌝ }
+        ensures { λ r. ⌜ r ≡ sweepStarted self frequency ⌝ }
     {
         Sweep {
             period: self.period,

@@ -1,3 +1,3 @@
 -- The laws of the wave channel. Assumes nothing.
 pub mod Ranges
-pub mod Swings
+pub mod Phases

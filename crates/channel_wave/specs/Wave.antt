@@ -7,7 +7,7 @@ use mathlib.Core.List.{List}
 use lib.Dec.{eqb, leb}
 use lib.ListN.{length, getD, set, replicate}
 use Rattle.ground.specs.Pick.{pick}
-use Rattle.channel_wave.specs.With.{withVolume, withBuffer, moved, withOn, withDac}
+use Rattle.channel_wave.specs.With.{withVolume, withBuffer, withPositionAndTimer, withOn, withDac}
 use Rattle.channel_wave.specs.declared.wave_channel.WaveChannel.{WaveChannel}
 use Rattle.channel_wave.specs.declared.wave_channel.BufferIndex.{BufferIndex}
 use Rattle.channel_wave.specs.declared.wave_channel.BufferIndex.the-variants.{At, Nowhere}
@@ -76,15 +76,15 @@ unfoldable pub stored : WaveChannel → Bool → ℕ → ℕ → WaveChannel
 stored w dmg offset value = withBuffer w (storedIn (w .buffer) (indexOf w dmg offset) value)
 
 -- one clock of its timer: "A timer at 0 steps its channel and reloads, else loses 1. Pulse and wave reload to 2047 - frequency"
-unfoldable pub halved : WaveChannel → WaveChannel
-halved w =
+unfoldable pub timerClocked : WaveChannel → WaveChannel
+timerClocked w =
     pick (eqb (w .«frequency_timer») 0)
-    (moved w ((w .«buffer_position» + 1) % 32) true (2047 - w .frequency))
-    (moved w (w .«buffer_position») false (w .«frequency_timer» - 1))
+    (withPositionAndTimer w ((w .«buffer_position» + 1) % 32) true (2047 - w .frequency))
+    (withPositionAndTimer w (w .«buffer_position») false (w .«frequency_timer» - 1))
 
 -- "The wave is clocked twice; "just clocked" is about the second"
 unfoldable pub clocked : WaveChannel → WaveChannel
-clocked w = halved (halved w)
+clocked w = timerClocked (timerClocked w)
 
 -- bytes 0..3 become the four from `start` on
 unfoldable pub fourFrom : List ℕ → ℕ → List ℕ

@@ -65,8 +65,8 @@ withPosition w position =
     }
 
 -- another position, "just clocked" and timer
-abbrev pub moved : WaveChannel → ℕ → Bool → ℕ → WaveChannel
-moved w position just timer =
+abbrev pub withPositionAndTimer : WaveChannel → ℕ → Bool → ℕ → WaveChannel
+withPositionAndTimer w position just timer =
     record {
       volume = w .volume;
       «volume_shift» = w .«volume_shift»;

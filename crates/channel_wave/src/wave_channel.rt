@@ -1,10 +1,10 @@
 // The wave channel: `WaveChannel` of wave_channel.rs, with its on/off rules from channel.rs. The model, DMG or not, is handed in.
 ghost use mathlib.Core.Path.{_≡_};
 ghost use Prim.Native.Nat.{_≤_};
-ghost use Rattle.channel_wave.specs.Wave.{Held, fresh, shiftOf, volumeWritten, dacSet, indexOf, byteAt, stored, halved, clocked, fourFrom, rewritten, bufferAtTrigger, triggered, nibbleOf, outputOf, mutedOf};
+ghost use Rattle.channel_wave.specs.Wave.{Held, fresh, shiftOf, volumeWritten, dacSet, indexOf, byteAt, stored, timerClocked, clocked, fourFrom, rewritten, bufferAtTrigger, triggered, nibbleOf, outputOf, mutedOf};
 ghost use Rattle.channel_wave.specs.With.{withFrequency, withPosition, withOn};
-ghost use Rattle.channel_wave.specs.Swing.{SwingHeld, swingOf, withSwing};
-use crate::swing::Swing;
+ghost use Rattle.channel_wave.specs.Phase.{WavePhaseHeld, wavePhaseOf, withWavePhase};
+use crate::phase::WavePhase;
 
 pub struct WaveChannel {
     pub volume: u8,
@@ -173,9 +173,9 @@ impl WaveChannel {
     }
 
     // One of the two clocks of its timer that a working clock has.
-    fn half_clock(self) -> WaveChannel
+    fn clock_timer(self) -> WaveChannel
         requires { ⌜ Held self ⌝ }
-        ensures { λ r. ⌜ r ≡ halved self ⌝ }
+        ensures { λ r. ⌜ r ≡ timerClocked self ⌝ }
     {
         let mut next = self;
         if self.frequency_timer == 0 {
@@ -195,14 +195,14 @@ impl WaveChannel {
         requires { ⌜ Held self ⌝ }
         ensures { λ r. ⌜ r ≡ clocked self ⌝ }
     {
-        self.half_clock().half_clock()
+        self.clock_timer().clock_timer()
     }
 
     // What its clocks move.
-    pub fn swing(self) -> Swing
-        ensures { λ r. ⌜ r ≡ swingOf self ⌝ }
+    pub fn phase(self) -> WavePhase
+        ensures { λ r. ⌜ r ≡ wavePhaseOf self ⌝ }
     {
-        Swing {
+        WavePhase {
             buffer_position: self.buffer_position as u32,
             buffer_position_just_clocked: self.buffer_position_just_clocked,
             frequency_timer: self.frequency_timer as u32,
@@ -210,14 +210,14 @@ impl WaveChannel {
     }
 
     // The channel with that as it stands after some clocks.
-    pub fn with_swing(self, swing: Swing) -> WaveChannel
-        requires { ⌜ SwingHeld swing ⌝ }
-        ensures { λ r. ⌜ r ≡ withSwing self swing ⌝ }
+    pub fn with_phase(self, phase: WavePhase) -> WaveChannel
+        requires { ⌜ WavePhaseHeld phase ⌝ }
+        ensures { λ r. ⌜ r ≡ withWavePhase self phase ⌝ }
     {
         let mut next = self;
-        next.buffer_position = swing.buffer_position as u8;
-        next.buffer_position_just_clocked = swing.buffer_position_just_clocked;
-        next.frequency_timer = swing.frequency_timer as u16;
+        next.buffer_position = phase.buffer_position as u8;
+        next.buffer_position_just_clocked = phase.buffer_position_just_clocked;
+        next.frequency_timer = phase.frequency_timer as u16;
         next
     }
 
@@ -248,29 +248,29 @@ impl WaveChannel {
         next
     }
 
-    // The nibble at the position in `swing`, high at even positions.
-    fn nibble_at(self, swing: Swing) -> u8
+    // The nibble at the position in `phase`, high at even positions.
+    fn nibble_at(self, phase: WavePhase) -> u8
         requires { ⌜ Held self ⌝ }
-        requires { ⌜ SwingHeld swing ⌝ }
-        ensures { λ r. ⌜ r ≡ nibbleOf (withSwing self swing) ⌝ }
+        requires { ⌜ WavePhaseHeld phase ⌝ }
+        ensures { λ r. ⌜ r ≡ nibbleOf (withWavePhase self phase) ⌝ }
     {
-        let place = (swing.buffer_position / 2) as usize;
+        let place = (phase.buffer_position / 2) as usize;
         let buffer = self.buffer;
         let byte = buffer[place];
-        if swing.buffer_position % 2 == 0 {
+        if phase.buffer_position % 2 == 0 {
             byte / 16 % 16
         } else {
             byte % 16
         }
     }
 
-    // What goes to the converter with the position as in `swing`: 0 with the channel off, else the nibble shifted right by the stored shift.
-    pub fn output_at(self, swing: Swing) -> u8
+    // What goes to the converter with the position as in `phase`: 0 with the channel off, else the nibble shifted right by the stored shift.
+    pub fn output_at(self, phase: WavePhase) -> u8
         requires { ⌜ Held self ⌝ }
-        requires { ⌜ SwingHeld swing ⌝ }
-        ensures { λ r. ⌜ r ≡ outputOf (withSwing self swing) ⌝ }
+        requires { ⌜ WavePhaseHeld phase ⌝ }
+        ensures { λ r. ⌜ r ≡ outputOf (withWavePhase self phase) ⌝ }
     {
-        let nibble = self.nibble_at(swing);
+        let nibble = self.nibble_at(phase);
         let shifted = nibble >> self.volume_shift;
         if self.channel_enable { shifted } else { 0 }
     }
@@ -280,7 +280,7 @@ impl WaveChannel {
         requires { ⌜ Held self ⌝ }
         ensures { λ r. ⌜ r ≡ outputOf self ⌝ }
     {
-        self.output_at(self.swing())
+        self.output_at(self.phase())
     }
 
     // Whether the converter stands still: only with the channel off.

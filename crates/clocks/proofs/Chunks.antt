@@ -21,19 +21,19 @@ abbrev pub Works : {S A : Type 0} → Float → (Float → A → S) → (S → S
 Works {S} {A} n at work clock frame = (c : Float) (a : A) → work (at c a) ≡ at (tickBy n c .counter) (clock (pick (tickBy n c .made) (frame a) a))
 
 module _ {S A : Type 0} (at : Float → A → S) (work : S → S) (clock frame : A → A) where
-  -- ---- at any N of K units of 2 ^ -u
-  module _ (u K : ℕ) (r : Room u K) (works : Works (unitsOf binary64 u K) at work clock frame) where
+  -- ---- at any N of M units of 2 ^ -u
+  module _ (u M : ℕ) (r : Room u M) (works : Works (unitsOf binary64 u M) at work clock frame) where
     -- the state after a working clock, by what it did to the counter
     abbrev by : A → Ticked → S
     by a t = at (t .counter) (clock (pick (t .made) (frame a) a))
 
-    one-short : (k : ℕ) (a : A) → k + 2 ^ u < K → work (at (unitsOf binary64 u k) a) ≡ at (unitsOf binary64 u (k + 2 ^ u)) (clock a)
-    one-short k a h = works (unitsOf binary64 u k) a ∙ ap (by a) (tick-short u K r k h) ∙ unfold pick in refl
+    one-short : (k : ℕ) (a : A) → k + 2 ^ u < M → work (at (unitsOf binary64 u k) a) ≡ at (unitsOf binary64 u (k + 2 ^ u)) (clock a)
+    one-short k a h = works (unitsOf binary64 u k) a ∙ ap (by a) (tick-short u M r k h) ∙ unfold pick in refl
 
-    one-frame : (k : ℕ) (a : A) → k < K → K ≤ k + 2 ^ u → work (at (unitsOf binary64 u k) a) ≡ at (unitsOf binary64 u (k + 2 ^ u - K)) (clock (frame a))
-    one-frame k a h l = works (unitsOf binary64 u k) a ∙ ap (by a) (tick-frame u K r k h l) ∙ unfold pick in refl
+    one-frame : (k : ℕ) (a : A) → k < M → M ≤ k + 2 ^ u → work (at (unitsOf binary64 u k) a) ≡ at (unitsOf binary64 u (k + 2 ^ u - M)) (clock (frame a))
+    one-frame k a h l = works (unitsOf binary64 u k) a ∙ ap (by a) (tick-frame u M r k h l) ∙ unfold pick in refl
 
-    pub clocks-short : (n k : ℕ) (a : A) → k + n * 2 ^ u < K → iterate n work (at (unitsOf binary64 u k) a) ≡ at (unitsOf binary64 u (k + n * 2 ^ u)) (iterate n clock a)
+    pub clocks-short : (n k : ℕ) (a : A) → k + n * 2 ^ u < M → iterate n work (at (unitsOf binary64 u k) a) ≡ at (unitsOf binary64 u (k + n * 2 ^ u)) (iterate n clock a)
     unfolding iterate
     clocks-short zero k a h = ap (λ (x : ℕ). at (unitsOf binary64 u x) a) (none k (2 ^ u))
       where
@@ -47,11 +47,11 @@ module _ {S A : Type 0} (at : Float → A → S) (work : S → S) (clock frame :
         all : (k n p : ℕ) → k + p + n * p ≡ k + suc n * p
         all k n p = let e : (n + 1) * p ≡ n * p + 1 * p = add-mul n 1 p in omega arith
 
-        first : (k n p : ℕ) → k + suc n * p < K → k + p < K
+        first : (k n p : ℕ) → k + suc n * p < M → k + p < M
         first k n p h = let e = all k n p in omega arith
 
-    pub clocks-frame : (k d : ℕ) (a : A) → Due (2 ^ u) K k d
-        → iterate d work (at (unitsOf binary64 u k) a) ≡ at (unitsOf binary64 u (k + d * 2 ^ u - K)) (clock (frame (iterate (d - 1) clock a)))
+    pub clocks-frame : (k d : ℕ) (a : A) → Due (2 ^ u) M k d
+        → iterate d work (at (unitsOf binary64 u k) a) ≡ at (unitsOf binary64 u (k + d * 2 ^ u - M)) (clock (frame (iterate (d - 1) clock a)))
     unfolding iterate
     clocks-frame k d a due =
         let n = due .before in
@@ -61,7 +61,7 @@ module _ {S A : Type 0} (at : Float → A → S) (work : S → S) (clock frame :
         ∙ one-frame (k + n * 2 ^ u) (iterate n clock a) (due .short) (due .enough)
         ∙ rw (all n (2 ^ u), back n))
       where
-        all : (n p : ℕ) → k + n * p + p - K ≡ k + (n + 1) * p - K
+        all : (n p : ℕ) → k + n * p + p - M ≡ k + (n + 1) * p - M
         all n p = let e : (n + 1) * p ≡ n * p + 1 * p = add-mul n 1 p in omega arith
 
         back : (n : ℕ) → n + 1 - 1 ≡ n

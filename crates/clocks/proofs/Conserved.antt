@@ -13,60 +13,60 @@ use lib.Ieee.Scale.{round-same}
 use Rattle.clocks.specs.declared.sample_counter.Ticked.{Ticked}
 use Rattle.ground.specs.Units.{unitsOf}
 use Rattle.clocks.specs.Counter.{everyAt, tickBy}
-use Rattle.clocks.specs.Calls.{Call, normal, double, other, refused, Clocks, more, after, clocked, run, fresh, normals, doubles, times, worked, K, Conserved}
+use Rattle.clocks.specs.Calls.{Call, normal, double, other, refused, Clocks, more, after, clocked, run, fresh, normals, doubles, times, workingClocks, K, Conserved}
 use Rattle.ground.proofs.Units.{exact}
 use Rattle.clocks.proofs.Working.{left, Room, tick-units}
 
 -- ---- quotient and remainder, known by their sum
-pub div-mod-is : (n K q r : ℕ) → r < K → n ≡ q * K + r → (n / K ≡ q) × (n % K ≡ r)
-div-mod-is n K q r h e =
-    let z : 0 < K = omega arith in (
-      ap (λ (x : ℕ). x / K) e ∙ mul-add-div-right z q r ∙ ap (λ (x : ℕ). q + x) (div-eq-of-lt h) ∙ add-zero q,
-      ap (λ (x : ℕ). x % K) e ∙ mul-add-mod-self-right q K r ∙ mod-eq-of-lt h,
+pub div-mod-is : (n M q r : ℕ) → r < M → n ≡ q * M + r → (n / M ≡ q) × (n % M ≡ r)
+div-mod-is n M q r h e =
+    let z : 0 < M = omega arith in (
+      ap (λ (x : ℕ). x / M) e ∙ mul-add-div-right z q r ∙ ap (λ (x : ℕ). q + x) (div-eq-of-lt h) ∙ add-zero q,
+      ap (λ (x : ℕ). x % M) e ∙ mul-add-mod-self-right q M r ∙ mod-eq-of-lt h,
     )
 
--- ---- t units in all, since there were f frames: t / K frames more, and t % K units left
+-- ---- t units in all, since there were f frames: t / M frames more, and t % M units left
 abbrev pub heldAt : ℕ → ℕ → ℕ → ℕ → ℕ → Clocks
-heldAt u K f h t = record { half = h; counter = unitsOf binary64 u (t % K); frames = f + t / K }
+heldAt u M f h t = record { half = h; counter = unitsOf binary64 u (t % M); frames = f + t / M }
 
 -- what one working clock adds to t, the counter's own step being known
 abbrev counted : Ticked → ℕ → ℕ → Clocks
 counted c h f = record { half = h; counter = c .counter; frames = more (c .made) f }
 
-enough : (t K p q r : ℕ) → q * K + r ≡ t → K ≤ r + p → t + p ≡ (q + 1) * K + (r + p - K)
-enough t K p q r e h =
-    let d : (q + 1) * K ≡ q * K + K = add-mul q 1 K ∙ ap (λ (x : ℕ). q * K + x) (one-mul K) in
+enough : (t M p q r : ℕ) → q * M + r ≡ t → M ≤ r + p → t + p ≡ (q + 1) * M + (r + p - M)
+enough t M p q r e h =
+    let d : (q + 1) * M ≡ q * M + M = add-mul q 1 M ∙ ap (λ (x : ℕ). q * M + x) (one-mul M) in
     omega arith
 
-too-few : (t K p q r : ℕ) → q * K + r ≡ t → t + p ≡ q * K + (r + p)
-too-few t K p q r e = omega arith
+too-few : (t M p q r : ℕ) → q * M + r ≡ t → t + p ≡ q * M + (r + p)
+too-few t M p q r e = omega arith
 
-rest-lt : (r p K : ℕ) → r < K → p ≤ K → r + p - K < K
-rest-lt r p K h l = omega arith
+rest-lt : (r p M : ℕ) → r < M → p ≤ M → r + p - M < M
+rest-lt r p M h l = omega arith
 
-tock : (u K f h t : ℕ) → Room u K → counted (tickBy (unitsOf binary64 u K) (unitsOf binary64 u (t % K))) h (f + t / K) ≡ heldAt u K f h (t + 2 ^ u)
-tock u K f h t r =
+tock : (u M f h t : ℕ) → Room u M → counted (tickBy (unitsOf binary64 u M) (unitsOf binary64 u (t % M))) h (f + t / M) ≡ heldAt u M f h (t + 2 ^ u)
+tock u M f h t r =
     let p = 2 ^ u in
-    let z : 0 < K = lt-of-lt-of-le (pow-pos u) (r .low) in
-    ap (λ (c : Ticked). counted c h (f + t / K)) (tick-units u K (t % K) r (mod-lt t z))
-    ∙ go (leb K (t % K + p)) (leb→le K (t % K + p)) (nleb→lt K (t % K + p)) z
+    let z : 0 < M = lt-of-lt-of-le (pow-pos u) (r .low) in
+    ap (λ (c : Ticked). counted c h (f + t / M)) (tick-units u M (t % M) r (mod-lt t z))
+    ∙ go (leb M (t % M + p)) (leb→le M (t % M + p)) (nleb→lt M (t % M + p)) z
   where
-    go : (b : Bool) → (T b → K ≤ t % K + 2 ^ u) → (T (not b) → t % K + 2 ^ u < K) → 0 < K → counted (left u K b (t % K + 2 ^ u)) h (f + t / K) ≡ heldAt u K f h (t + 2 ^ u)
+    go : (b : Bool) → (T b → M ≤ t % M + 2 ^ u) → (T (not b) → t % M + 2 ^ u < M) → 0 < M → counted (left u M b (t % M + 2 ^ u)) h (f + t / M) ≡ heldAt u M f h (t + 2 ^ u)
     go true g l z =
-        let d = div-mod-is (t + 2 ^ u) K (t / K + 1) (t % K + 2 ^ u - K) (rest-lt (t % K) (2 ^ u) K (mod-lt t z) (r .low)) (enough t K (2 ^ u) (t / K) (t % K) (div-add-mod' t K) (g tt)) in
-        rw (d .0, d .1, ← add-assoc f (t / K) 1)
+        let d = div-mod-is (t + 2 ^ u) M (t / M + 1) (t % M + 2 ^ u - M) (rest-lt (t % M) (2 ^ u) M (mod-lt t z) (r .low)) (enough t M (2 ^ u) (t / M) (t % M) (div-add-mod' t M) (g tt)) in
+        rw (d .0, d .1, ← add-assoc f (t / M) 1)
     go false g l z =
-        let d = div-mod-is (t + 2 ^ u) K (t / K) (t % K + 2 ^ u) (l tt) (too-few t K (2 ^ u) (t / K) (t % K) (div-add-mod' t K)) in
+        let d = div-mod-is (t + 2 ^ u) M (t / M) (t % M + 2 ^ u) (l tt) (too-few t M (2 ^ u) (t / M) (t % M) (div-add-mod' t M)) in
         rw (d .0, d .1)
 
 -- ---- from a counter of k units and g half-clocks: after H half-clocks in all
 abbrev pub reached : ℕ → ℕ → ℕ → ℕ → ℕ → Clocks
-reached u K f k H = heldAt u K f (H % 2) (k + H / 2 * 2 ^ u)
+reached u M f k H = heldAt u M f (H % 2) (k + H / 2 * 2 ^ u)
 
-clocked-reached : (u K f k H d : ℕ) → Room u K → d ≤ 2 → clocked (unitsOf binary64 u K) d (reached u K f k H) ≡ reached u K f k (H + d)
-clocked-reached u K f k H d r D = go (ltb (H % 2 + d) 2) (ltb→lt (H % 2 + d) 2) (nltb→le (H % 2 + d) 2)
+clocked-reached : (u M f k H d : ℕ) → Room u M → d ≤ 2 → clocked (unitsOf binary64 u M) d (reached u M f k H) ≡ reached u M f k (H + d)
+clocked-reached u M f k H d r D = go (ltb (H % 2 + d) 2) (ltb→lt (H % 2 + d) 2) (nltb→le (H % 2 + d) 2)
   where
-    go : (b : Bool) → (T b → H % 2 + d < 2) → (T (not b) → 2 ≤ H % 2 + d) → after b (unitsOf binary64 u K) (H % 2 + d) (reached u K f k H) ≡ reached u K f k (H + d)
+    go : (b : Bool) → (T b → H % 2 + d < 2) → (T (not b) → 2 ≤ H % 2 + d) → after b (unitsOf binary64 u M) (H % 2 + d) (reached u M f k H) ≡ reached u M f k (H + d)
     go true g l =
         let s : H % 2 + d < 2 = g tt in
         let a : (H + d) % 2 ≡ H % 2 + d = omega arith in
@@ -77,7 +77,7 @@ clocked-reached u K f k H d r D = go (ltb (H % 2 + d) 2) (ltb→lt (H % 2 + d) 2
         let a : (H + d) % 2 ≡ H % 2 + d - 2 = omega arith in
         let b : (H + d) / 2 ≡ H / 2 + 1 = omega arith in
         let c : k + (H / 2 + 1) * 2 ^ u ≡ k + H / 2 * 2 ^ u + 2 ^ u = ap (λ (x : ℕ). k + x) (add-mul (H / 2) 1 (2 ^ u) ∙ ap (λ (x : ℕ). H / 2 * 2 ^ u + x) (one-mul (2 ^ u))) ∙ sym (add-assoc k (H / 2 * 2 ^ u) (2 ^ u)) in
-        rw (a, b, c) (tock u K f (H % 2 + d - 2) (k + H / 2 * 2 ^ u) r)
+        rw (a, b, c) (tock u M f (H % 2 + d - 2) (k + H / 2 * 2 ^ u) r)
 
 two-more : (H a b : ℕ) → H + 2 + (2 * a + b) ≡ H + (2 * (1 + a) + (0 + b))
 two-more H a b = omega arith
@@ -92,28 +92,28 @@ no-more H a b = omega arith
 halves : List Call → ℕ
 halves cs = 2 * normals cs + doubles cs
 
-run-reached : (u K f k : ℕ) (cs : List Call) (H : ℕ) → Room u K → run (unitsOf binary64 u K) cs (reached u K f k H) ≡ reached u K f k (H + halves cs)
+run-reached : (u M f k : ℕ) (cs : List Call) (H : ℕ) → Room u M → run (unitsOf binary64 u M) cs (reached u M f k H) ≡ reached u M f k (H + halves cs)
 unfolding run halves normals doubles
-run-reached u K f k [] H r = ap (reached u K f k) (sym (add-zero H))
-run-reached u K f k (normal ∷ cs) H r =
-    ap (run (unitsOf binary64 u K) cs) (clocked-reached u K f k H 2 r (lit≤ tt)) ∙ run-reached u K f k cs (H + 2) r ∙ ap (reached u K f k) (two-more H (normals cs) (doubles cs))
-run-reached u K f k (double ∷ cs) H r =
-    ap (run (unitsOf binary64 u K) cs) (clocked-reached u K f k H 1 r (lit≤ tt)) ∙ run-reached u K f k cs (H + 1) r ∙ ap (reached u K f k) (one-more H (normals cs) (doubles cs))
-run-reached u K f k (other ∷ cs) H r = run-reached u K f k cs H r ∙ ap (reached u K f k) (no-more H (normals cs) (doubles cs))
-run-reached u K f k (refused ∷ cs) H r = run-reached u K f k cs H r ∙ ap (reached u K f k) (no-more H (normals cs) (doubles cs))
+run-reached u M f k [] H r = ap (reached u M f k) (sym (add-zero H))
+run-reached u M f k (normal ∷ cs) H r =
+    ap (run (unitsOf binary64 u M) cs) (clocked-reached u M f k H 2 r (lit≤ tt)) ∙ run-reached u M f k cs (H + 2) r ∙ ap (reached u M f k) (two-more H (normals cs) (doubles cs))
+run-reached u M f k (double ∷ cs) H r =
+    ap (run (unitsOf binary64 u M) cs) (clocked-reached u M f k H 1 r (lit≤ tt)) ∙ run-reached u M f k cs (H + 1) r ∙ ap (reached u M f k) (one-more H (normals cs) (doubles cs))
+run-reached u M f k (other ∷ cs) H r = run-reached u M f k cs H r ∙ ap (reached u M f k) (no-more H (normals cs) (doubles cs))
+run-reached u M f k (refused ∷ cs) H r = run-reached u M f k cs H r ∙ ap (reached u M f k) (no-more H (normals cs) (doubles cs))
 
 -- ---- from f frames, a kept remainder of k units and g half-clocks (a unit that is taken up again has these), over any calls
-pub from-kept : (u K f g k : ℕ) (cs : List Call) → Room u K → g < 2 → k < K
-    → run (unitsOf binary64 u K) cs (record { half = g; counter = unitsOf binary64 u k; frames = f }) ≡ reached u K f k (g + (2 * normals cs + doubles cs))
+pub from-kept : (u M f g k : ℕ) (cs : List Call) → Room u M → g < 2 → k < M
+    → run (unitsOf binary64 u M) cs (record { half = g; counter = unitsOf binary64 u k; frames = f }) ≡ reached u M f k (g + (2 * normals cs + doubles cs))
 unfolding halves
-from-kept u K f g k cs r G h =
+from-kept u M f g k cs r G h =
     let a : g % 2 ≡ g = omega arith in
     let b : g / 2 ≡ 0 = omega arith in
     let c : k + 0 * 2 ^ u ≡ k = ap (λ (x : ℕ). k + x) (zero-mul (2 ^ u)) ∙ add-zero k in
-    let start : reached u K f k g ≡ record { half = g; counter = unitsOf binary64 u k; frames = f } = rw (a, b, c, mod-eq-of-lt h, div-eq-of-lt h, add-zero f) in
-    ap (run (unitsOf binary64 u K) cs) (sym start) ∙ run-reached u K f k cs g r
+    let start : reached u M f k g ≡ record { half = g; counter = unitsOf binary64 u k; frames = f } = rw (a, b, c, mod-eq-of-lt h, div-eq-of-lt h, add-zero f) in
+    ap (run (unitsOf binary64 u M) cs) (sym start) ∙ run-reached u M f k cs g r
 
--- ---- from a fresh unit, over any calls, with N as K units of 2 ^ -u
+-- ---- from a fresh unit, over any calls, with N as M units of 2 ^ -u
 round-zero : round binary64 false 0 1 ≡ fin false 0 (pos 0)
 unfolding round
 round-zero = refl
@@ -129,21 +129,21 @@ same-half : (a b : ℕ) → (0 + (2 * a + b)) % 2 ≡ b % 2
 same-half a b = omega arith
 
 -- the whole state
-pub from-fresh : (u K : ℕ) → Room u K → (cs : List Call) → run (unitsOf binary64 u K) cs fresh ≡ heldAt u K 0 (doubles cs % 2) (worked cs * 2 ^ u)
-from-fresh u K r cs =
-    ap (λ (x : Float). run (unitsOf binary64 u K) cs (record { half = 0; counter = x; frames = 0 })) (sym (zero-units u))
-    ∙ from-kept u K 0 0 0 cs r (lit< tt) (lt-of-lt-of-le (pow-pos u) (r .low))
-    ∙ rw (same-W (normals cs) (doubles cs), same-half (normals cs) (doubles cs), zero-add (worked cs * 2 ^ u))
+pub from-fresh : (u M : ℕ) → Room u M → (cs : List Call) → run (unitsOf binary64 u M) cs fresh ≡ heldAt u M 0 (doubles cs % 2) (workingClocks cs * 2 ^ u)
+from-fresh u M r cs =
+    ap (λ (x : Float). run (unitsOf binary64 u M) cs (record { half = 0; counter = x; frames = 0 })) (sym (zero-units u))
+    ∙ from-kept u M 0 0 0 cs r (lit< tt) (lt-of-lt-of-le (pow-pos u) (r .low))
+    ∙ rw (same-W (normals cs) (doubles cs), same-half (normals cs) (doubles cs), zero-add (workingClocks cs * 2 ^ u))
 
 -- demand 3, in its words
-pub conserved-by : (u K : ℕ) → Room u K → (cs : List Call) → Conserved u K cs (run (unitsOf binary64 u K) cs fresh)
-conserved-by u K r cs =
-    let t = worked cs * 2 ^ u in
-    let z : 0 < K = lt-of-lt-of-le (pow-pos u) (r .low) in
-    rw (from-fresh u K r cs)
+pub conserved-by : (u M : ℕ) → Room u M → (cs : List Call) → Conserved u M cs (run (unitsOf binary64 u M) cs fresh)
+conserved-by u M r cs =
+    let t = workingClocks cs * 2 ^ u in
+    let z : 0 < M = lt-of-lt-of-le (pow-pos u) (r .low) in
+    rw (from-fresh u M r cs)
     (record {
-      frames = zero-add (t / K);
-      rest = rw (zero-add (t / K), ← mod-eq-sub-div-mul t K) (exact binary64 u (t % K) (r .deep) (lt-of-lt-of-le (mod-lt t z) (le-trans (le-add-right K (2 ^ u)) (r .high))));
+      frames = zero-add (t / M);
+      rest = rw (zero-add (t / M), ← mod-eq-sub-div-mul t M) (exact binary64 u (t % M) (r .deep) (lt-of-lt-of-le (mod-lt t z) (le-trans (le-add-right M (2 ^ u)) (r .high))));
       half = refl;
     })
 

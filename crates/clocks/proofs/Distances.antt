@@ -1,4 +1,4 @@
--- How far the next frame is: a working clock adds 2 ^ u units to the sample counter, and K of them make a frame. Assumes nothing.
+-- How far the next frame is: a working clock adds 2 ^ u units to the sample counter, and M of them make a frame. Assumes nothing.
 use mathlib.Core.Path.{_≡_, refl, sym, ap, ap₂, _∙_}
 use mathlib.Core.Bool.{Bool, true, false, not}
 use Prim.Native.Nat.{ℕ, zero, suc, _+_, _-_, _*_, _/_, _^_, _≤_, _<_}
@@ -23,53 +23,53 @@ use Rattle.clocks.specs.Distance.{unitsIn, awayBy, awayOf}
 use Rattle.clocks.proofs.Working.{left, Room, tick-units}
 use Rattle.clocks.proofs.Conserved.{every-units, room}
 
--- from k units the next frame is d working clocks of p units each away: those before it stay below K
-pub record Due (p K k d : ℕ) : Type 0 where
+-- from k units the next frame is d working clocks of p units each away: those before it stay below M
+pub record Due (p M k d : ℕ) : Type 0 where
   pub before : ℕ
   pub is : d ≡ before + 1
-  pub short : k + before * p < K
-  pub enough : K ≤ k + before * p + p
+  pub short : k + before * p < M
+  pub enough : M ≤ k + before * p + p
 
--- ---- at any N of K units of 2 ^ -u
-module _ (u K : ℕ) (r : Room u K) where
+-- ---- at any N of M units of 2 ^ -u
+module _ (u M : ℕ) (r : Room u M) where
   -- a working clock that makes no frame, and one that makes it
-  pub tick-short : (k : ℕ) → k + 2 ^ u < K → tickBy (unitsOf binary64 u K) (unitsOf binary64 u k) ≡ record { made = false; counter = unitsOf binary64 u (k + 2 ^ u) }
-  tick-short k h = tick-units u K k r (smaller k (2 ^ u) h) ∙ ap (λ (b : Bool). left u K b (k + 2 ^ u)) (lt-leb K (k + 2 ^ u) h)
+  pub tick-short : (k : ℕ) → k + 2 ^ u < M → tickBy (unitsOf binary64 u M) (unitsOf binary64 u k) ≡ record { made = false; counter = unitsOf binary64 u (k + 2 ^ u) }
+  tick-short k h = tick-units u M k r (smaller k (2 ^ u) h) ∙ ap (λ (b : Bool). left u M b (k + 2 ^ u)) (lt-leb M (k + 2 ^ u) h)
     where
-      smaller : (k p : ℕ) → k + p < K → k < K
+      smaller : (k p : ℕ) → k + p < M → k < M
       smaller k p h = omega arith
 
-  pub tick-frame : (k : ℕ) → k < K → K ≤ k + 2 ^ u → tickBy (unitsOf binary64 u K) (unitsOf binary64 u k) ≡ record { made = true; counter = unitsOf binary64 u (k + 2 ^ u - K) }
-  tick-frame k h l = tick-units u K k r h ∙ ap (λ (b : Bool). left u K b (k + 2 ^ u)) (le-leb K (k + 2 ^ u) l)
+  pub tick-frame : (k : ℕ) → k < M → M ≤ k + 2 ^ u → tickBy (unitsOf binary64 u M) (unitsOf binary64 u k) ≡ record { made = true; counter = unitsOf binary64 u (k + 2 ^ u - M) }
+  tick-frame k h l = tick-units u M k r h ∙ ap (λ (b : Bool). left u M b (k + 2 ^ u)) (le-leb M (k + 2 ^ u) l)
 
   -- the distance by the outcome of the next working clock
   abbrev from : ℕ → Ticked → ℕ
-  from fuel t = pick (t .made) 1 (awayBy (unitsOf binary64 u K) fuel (t .counter) + 1)
+  from fuel t = pick (t .made) 1 (awayBy (unitsOf binary64 u M) fuel (t .counter) + 1)
 
-  -- as many clocks as come to K are enough to find the frame
-  pub due : (fuel k : ℕ) → k < K → K ≤ k + fuel * 2 ^ u → Due (2 ^ u) K k (awayBy (unitsOf binary64 u K) fuel (unitsOf binary64 u k))
+  -- as many clocks as come to M are enough to find the frame
+  pub due : (fuel k : ℕ) → k < M → M ≤ k + fuel * 2 ^ u → Due (2 ^ u) M k (awayBy (unitsOf binary64 u M) fuel (unitsOf binary64 u k))
   unfolding awayBy pick
   due zero k h l = absurd (none k (2 ^ u) h l)
     where
-      none : (k p : ℕ) → k < K → K ≤ k + zero * p → ⊥
+      none : (k p : ℕ) → k < M → M ≤ k + zero * p → ⊥
       none k p h l = omega arith
-  due (suc fuel) k h l = go (leb K (k + 2 ^ u)) (leb→le K (k + 2 ^ u)) (nleb→lt K (k + 2 ^ u)) (λ s. due fuel (k + 2 ^ u) s (fewer k fuel (2 ^ u) l))
+  due (suc fuel) k h l = go (leb M (k + 2 ^ u)) (leb→le M (k + 2 ^ u)) (nleb→lt M (k + 2 ^ u)) (λ s. due fuel (k + 2 ^ u) s (fewer k fuel (2 ^ u) l))
     where
-      fewer : (k f p : ℕ) → K ≤ k + suc f * p → K ≤ k + p + f * p
+      fewer : (k f p : ℕ) → M ≤ k + suc f * p → M ≤ k + p + f * p
       fewer k f p l = let e : (f + 1) * p ≡ f * p + 1 * p = add-mul f 1 p in omega arith
 
-      go : (b : Bool) → (T b → K ≤ k + 2 ^ u) → (T (not b) → k + 2 ^ u < K)
-          → (k + 2 ^ u < K → Due (2 ^ u) K (k + 2 ^ u) (awayBy (unitsOf binary64 u K) fuel (unitsOf binary64 u (k + 2 ^ u))))
-          → Due (2 ^ u) K k (from fuel (tickBy (unitsOf binary64 u K) (unitsOf binary64 u k)))
+      go : (b : Bool) → (T b → M ≤ k + 2 ^ u) → (T (not b) → k + 2 ^ u < M)
+          → (k + 2 ^ u < M → Due (2 ^ u) M (k + 2 ^ u) (awayBy (unitsOf binary64 u M) fuel (unitsOf binary64 u (k + 2 ^ u))))
+          → Due (2 ^ u) M k (from fuel (tickBy (unitsOf binary64 u M) (unitsOf binary64 u k)))
       go true g s rest = rw (tick-frame k h (g tt)) (record { before = 0; is = refl; short = omega arith; enough = let l = g tt in omega arith })
       go false g s rest =
           let d = rest (s tt) in
           let e : (d .before + 1) * 2 ^ u ≡ d .before * 2 ^ u + 1 * 2 ^ u = add-mul (d .before) 1 (2 ^ u) in
           rw (tick-short k (s tt)) (record { before = d .before + 1; is = ap (λ (x : ℕ). x + 1) (d .is); short = omega arith; enough = omega arith })
 
--- any clock before that one stops short of K
-pub due-short : {p K k d : ℕ} → Due p K k d → (n : ℕ) → n < d → k + n * p < K
-due-short {p} {K} {k} {d} due n h = let l : n * p ≤ due .before * p = mul-le-mul-right p (earlier (due .is) h) in let s = due .short in omega arith
+-- any clock before that one stops short of M
+pub due-short : {p M k d : ℕ} → Due p M k d → (n : ℕ) → n < d → k + n * p < M
+due-short {p} {M} {k} {d} due n h = let l : n * p ≤ due .before * p = mul-le-mul-right p (earlier (due .is) h) in let s = due .short in omega arith
   where
     earlier : {b : ℕ} → d ≡ b + 1 → n < d → n ≤ b
     earlier e h = omega arith

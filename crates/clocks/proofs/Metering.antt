@@ -28,30 +28,30 @@ gained-times false (suc n) =
     let h : 2 * normals (times n (atSpeed false)) + doubles (times n (atSpeed false)) ≡ n * 2 = gained-times false n in
     omega arith
 
-module _ (u K : ℕ) (r : Room u K) where
-  K-pos : 0 < K
-  K-pos = lt-of-lt-of-le (pow-pos u) (r .low)
+module _ (u M : ℕ) (r : Room u M) where
+  M-pos : 0 < M
+  M-pos = lt-of-lt-of-le (pow-pos u) (r .low)
 
   -- so many frames more, and the meter's clocks
-  pub meter-counts : (m : Meter) (d : Bool) (n f : ℕ) → Held K m
-      → run (unitsOf binary64 u K) (times n (atSpeed d)) (clocksOf u m f) ≡ clocksOf u (metered u K m d n .meter) (f + metered u K m d n .frames)
-  meter-counts m d n f h = from-kept u K f (m .half) (m .rest) (times n (atSpeed d)) r (h .half) (h .rest) ∙ rw (gained-times d n)
+  pub meter-counts : (m : Meter) (d : Bool) (n f : ℕ) → Held M m
+      → run (unitsOf binary64 u M) (times n (atSpeed d)) (clocksOf u m f) ≡ clocksOf u (metered u M m d n .meter) (f + metered u M m d n .frames)
+  meter-counts m d n f h = from-kept u M f (m .half) (m .rest) (times n (atSpeed d)) r (h .half) (h .rest) ∙ rw (gained-times d n)
 
   -- a meter's ranges are kept
-  pub metered-held : (m : Meter) (d : Bool) (n : ℕ) → Held K (metered u K m d n .meter)
-  metered-held m d n = record { half = mod-lt (m .half + gained d n) (lit< tt); rest = mod-lt (m .rest + (m .half + gained d n) / 2 * 2 ^ u) K-pos }
+  pub metered-held : (m : Meter) (d : Bool) (n : ℕ) → Held M (metered u M m d n .meter)
+  metered-held m d n = record { half = mod-lt (m .half + gained d n) (lit< tt); rest = mod-lt (m .rest + (m .half + gained d n) / 2 * 2 ^ u) M-pos }
 
   -- the sample counter's range is kept by a working clock
-  pub tick-kept : (x : Float) → Kept u K x → Kept u K (tickBy (unitsOf binary64 u K) x .counter)
+  pub tick-kept : (x : Float) → Kept u M x → Kept u M (tickBy (unitsOf binary64 u M) x .counter)
   tick-kept x k =
-      rw (k .is, tick-units u K (k .units) r (k .below))
-      (go (leb K (k .units + 2 ^ u)) (nleb→lt K (k .units + 2 ^ u)))
+      rw (k .is, tick-units u M (k .units) r (k .below))
+      (go (leb M (k .units + 2 ^ u)) (nleb→lt M (k .units + 2 ^ u)))
     where
-      rest-lt : (n p : ℕ) → n < K → p ≤ K → n + p - K < K
+      rest-lt : (n p : ℕ) → n < M → p ≤ M → n + p - M < M
       rest-lt n p h l = omega arith
 
-      go : (b : Bool) → (T (not b) → k .units + 2 ^ u < K) → Kept u K (left u K b (k .units + 2 ^ u) .counter)
-      go true l = record { units = k .units + 2 ^ u - K; below = rest-lt (k .units) (2 ^ u) (k .below) (r .low); is = refl }
+      go : (b : Bool) → (T (not b) → k .units + 2 ^ u < M) → Kept u M (left u M b (k .units + 2 ^ u) .counter)
+      go true l = record { units = k .units + 2 ^ u - M; below = rest-lt (k .units) (2 ^ u) (k .below) (r .low); is = refl }
       go false l = record { units = k .units + 2 ^ u; below = l tt; is = refl }
 
 -- ---- at 44,100
@@ -63,5 +63,5 @@ pub tick-kept-44100 : (x : Float) → Kept 48 K x → Kept 48 K (tickBy (everyAt
 tick-kept-44100 x k = rw every-units (tick-kept 48 K room x k)
 
 -- a counter in range is an f64
-pub kept-fits : (u K : ℕ) (x : Float) → Kept u K x → T (fits binary64 x)
-kept-fits u K x k = rw (k .is) (units-fit binary64 u (k .units))
+pub kept-fits : (u M : ℕ) (x : Float) → Kept u M x → T (fits binary64 x)
+kept-fits u M x k = rw (k .is) (units-fit binary64 u (k .units))

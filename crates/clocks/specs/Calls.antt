@@ -83,18 +83,19 @@ doubles [] = 0
 doubles (c ∷ cs) = oneIfDouble c + doubles cs
 
 -- demand 3: "W = a + b/2, halves dropped"
-abbrev pub worked : List Call → ℕ
-worked cs = normals cs + doubles cs / 2
+abbrev pub workingClocks : List Call → ℕ
+workingClocks cs = normals cs + doubles cs / 2
 
 -- demand 3: "11025 times K is 2^66 + 1511"
 abbrev pub K : ℕ
 K = (2 ^ 66 + 1511) / 11025
 
--- Demand 3 of a row of calls and what it came to, with N as K units of 2 ^ -u (u is 48 at 44100): "The number of frames made is exactly W times 2^48 divided
--- by K, rounded down .. The kept f64 remainder, in units of 2^-48, is exactly W times 2^48 less frames times K"; `HasValue x false a b` is that x is a / b
-pub record Conserved (u K : ℕ) (cs : List Call) (m : Clocks) : Type 0 where
-  pub frames : m .frames ≡ worked cs * 2 ^ u / K
-  pub rest : HasValue (m .counter) false (worked cs * 2 ^ u - m .frames * K) (2 ^ u)
+-- Demand 3 of a row of calls and what it came to, with N as M units of 2 ^ -u (at 44100 u is 48 and M is K): "The number of frames made is exactly W times
+-- 2^48 divided by K, rounded down .. The kept f64 remainder, in units of 2^-48, is exactly W times 2^48 less frames times K"; `HasValue x false a b` is that
+-- x is a / b
+pub record Conserved (u M : ℕ) (cs : List Call) (m : Clocks) : Type 0 where
+  pub frames : m .frames ≡ workingClocks cs * 2 ^ u / M
+  pub rest : HasValue (m .counter) false (workingClocks cs * 2 ^ u - m .frames * M) (2 ^ u)
   pub half : m .half ≡ doubles cs % 2
 
 -- n calls of one kind

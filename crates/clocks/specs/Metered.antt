@@ -7,10 +7,10 @@ use Rattle.clocks.specs.declared.meter.Meter.{Meter}
 use Rattle.clocks.specs.declared.meter.Metered.{Metered}
 use Rattle.clocks.specs.Calls.{Clocks, K}
 
--- a meter's ranges: half-clocks 0..1, and a rest of fewer units than N has, which are K
-pub record Held (K : ℕ) (m : Meter) : Type 0 where
+-- a meter's ranges: half-clocks 0..1, and a rest of fewer units than N has, which are M
+pub record Held (M : ℕ) (m : Meter) : Type 0 where
   pub half : m .half < 2
-  pub rest : m .rest < K
+  pub rest : m .rest < M
 
 -- that of a fresh unit
 abbrev pub fresh : Meter
@@ -21,12 +21,12 @@ abbrev pub gained : Bool → ℕ → ℕ
 gained true n = n
 gained false n = n * 2
 
--- n clock calls at one speed, with N as K units of 2 ^ -u: every two half-clocks are a working clock, which adds 2 ^ u units; every K units are a frame
+-- n clock calls at one speed, with N as M units of 2 ^ -u: every two half-clocks are a working clock, which adds 2 ^ u units; every M units are a frame
 abbrev pub metered : ℕ → ℕ → Meter → Bool → ℕ → Metered
-metered u K m double n =
+metered u M m double n =
     let halves = m .half + gained double n in
     let total = m .rest + halves / 2 * 2 ^ u in
-    record { frames = total / K; meter = record { half = halves % 2; rest = total % K } }
+    record { frames = total / M; meter = record { half = halves % 2; rest = total % M } }
 
 -- the clocks that a meter stands for, with so many frames made
 abbrev pub clocksOf : ℕ → Meter → ℕ → Clocks

@@ -16,7 +16,7 @@ use Rattle.channel_noise.specs.Noise as noise
 use Rattle.examples.specs.Marked.{AllHold, end, _and_, marked}
 
 pub marked-hold : AllHold marked
-unfolding pick reloadOf fresh skipped readOf byteAt statusByte byteOf pulse.enveloped pulse.sweepWritten pulse.triggered pulse.sweepClocked sweep.triggered sweep.started sweep.checked sweep.calculated sweep.targetOf sweep.clocked sweep.expired sweep.reloaded sweep.updated sweep.stored
+unfolding pick reloadOf fresh skipped readOf byteAt statusByte byteOf pulse.enveloped pulse.sweepWritten pulse.triggered pulse.sweepClocked sweep.triggered sweep.sweepStarted sweep.checked sweep.calculated sweep.targetOf sweep.clocked sweep.expired sweep.reloaded sweep.updated sweep.stored
     noise.reloadOf noise.divisorOf noise.steppedRegister noise.feedbackOf noise.putBit wave.triggered wave.bufferAtTrigger wave.rewritten wave.fourFrom
     converter.stepped sideOf toBits div sub mul add ofInt ofBits
 marked-hold =

@@ -44,8 +44,8 @@ abbrev booted : Bool → ℕ → ℕ
 booted dmg addr = returnedOfRead (readOf (skipped dmg) addr)
 
 -- 5 and 6: a fresh pulse with its DAC on, FF10 and a frequency written, then triggered; whether it is on
-abbrev started : ℕ → ℕ → PulseChannel
-started ff10 frequency = pulse.triggered (pulseWith.withFrequency (pulse.sweepWritten (pulse.enveloped pulse.fresh 0xF0) ff10) frequency)
+abbrev triggeredWith : ℕ → ℕ → PulseChannel
+triggeredWith ff10 frequency = pulse.triggered (pulseWith.withFrequency (pulse.sweepWritten (pulse.enveloped pulse.fresh 0xF0) ff10) frequency)
 
 abbrev on : PulseChannel → ℕ
 on p = asNumber (p .«channel_enabled»)
@@ -98,12 +98,12 @@ marked =
     ∷ row 4 (booted false 0xFF25) 0xF3
     ∷ row 4 (booted false 0xFF26) 0xF1
     -- 5. "Trigger with DAC on, add, shift 1: 1365 stays on, 1366 goes off."
-    ∷ row 5 (on (started 0x01 1365)) 1
-    ∷ row 5 (on (started 0x01 1366)) 0
+    ∷ row 5 (on (triggeredWith 0x01 1365)) 1
+    ∷ row 5 (on (triggeredWith 0x01 1366)) 0
     -- 6. "FF10 11, frequency 1024: trigger stays on; first sweep clock leaves 1536, off."
-    ∷ row 6 (on (started 0x11 1024)) 1
-    ∷ row 6 (pulse.sweepClocked (started 0x11 1024) .frequency) 1536
-    ∷ row 6 (on (pulse.sweepClocked (started 0x11 1024))) 0
+    ∷ row 6 (on (triggeredWith 0x11 1024)) 1
+    ∷ row 6 (pulse.sweepClocked (triggeredWith 0x11 1024) .frequency) 1536
+    ∷ row 6 (on (pulse.sweepClocked (triggeredWith 0x11 1024))) 0
     -- 7. "FF22 00: reload 2; 07: 28; C0: 8192; D0: 0; A7: 12288."
     ∷ row 7 (reload 0x00) 2
     ∷ row 7 (reload 0x07) 28

@@ -17,7 +17,7 @@ use lib.Ieee.Exact.{HasValue}
 use lib.Ieee.Back.{round-whole}
 use lib.Ieee.Scale.{grid, overflow}
 use Rattle.frame.specs.Converter.{f0, f15, keep, inOf, outOf, charged, fresh, stepped}
-use Rattle.frame.specs.Held.{one, Charge, Held, Within}
+use Rattle.frame.specs.Held.{unitsOfOne, Charge, Held, Within}
 use Rattle.frame.specs.declared.converter.Converter.{Converter}
 use Rattle.ground.proofs.Rounded.{grid-le, rounded, plus-sum, up-sum, down-sum, sub-is, mul-is, div-is}
 
@@ -26,7 +26,7 @@ keep-value : HasValue keep false 16710107 (2 ^ 24)
 unfolding ofBits
 keep-value = (refl, refl)
 
-pub f0-value : HasValue f0 false 0 one
+pub f0-value : HasValue f0 false 0 unitsOfOne
 unfolding ofBits
 f0-value = (refl, refl)
 
@@ -36,21 +36,21 @@ f15-value = (refl, refl)
 
 -- ---- whole numbers of 2 ^ -149, rounded to f32: a units; g units times the f32 nearest to 0.996; an output / 15
 snap : ℕ → ℕ
-snap a = grid binary32 a one
+snap a = grid binary32 a unitsOfOne
 
 scaled : ℕ → ℕ
-scaled g = grid binary32 (g * 16710107) (one * 2 ^ 24)
+scaled g = grid binary32 (g * 16710107) (unitsOfOne * 2 ^ 24)
 
 input : ℕ → ℕ
 input o = grid binary32 o 15
 
 snap-le : (a b : ℕ) → a ≤ b → snap a ≤ snap b
 unfolding snap
-snap-le a b h = grid-le binary32 a b one (pow-pos 149) h
+snap-le a b h = grid-le binary32 a b unitsOfOne (pow-pos 149) h
 
 scaled-le : (a b : ℕ) → a ≤ b → scaled a ≤ scaled b
 unfolding scaled
-scaled-le a b h = grid-le binary32 (a * 16710107) (b * 16710107) (one * 2 ^ 24) (pow-pos 173) (mul-le-mul-right 16710107 h)
+scaled-le a b h = grid-le binary32 (a * 16710107) (b * 16710107) (unitsOfOne * 2 ^ 24) (pow-pos 173) (mul-le-mul-right 16710107 h)
 
 -- ---- what is computed, for each output
 abbrev allBelow : ℕ → (ℕ → Bool) → Bool
@@ -67,53 +67,53 @@ below (suc n) p t k h = elim (eq-or-lt-of-le (le-of-suc-le-suc h)) [
 each : (p q : ℕ → ℕ) → T (allBelow 16 (λ (o : ℕ). leb (p o) (q o))) → (o : ℕ) → o ≤ 15 → p o ≤ q o
 each p q t o h = leb→le (p o) (q o) (below 16 (λ (o : ℕ). leb (p o) (q o)) t o (lt-of-le-of-lt h (lit< tt)))
 
-whole : (o : ℕ) → o ≤ 15 → input o ≤ one
+whole : (o : ℕ) → o ≤ 15 → input o ≤ unitsOfOne
 unfolding input size
-whole = each input (λ o. one) tt
+whole = each input (λ o. unitsOfOne) tt
 
 -- at capacitor 0: what goes out, and what is left of it
-rises : (o : ℕ) → o ≤ 15 → snap (input o) ≤ one
+rises : (o : ℕ) → o ≤ 15 → snap (input o) ≤ unitsOfOne
 unfolding input snap size
-rises = each (λ o. snap (input o)) (λ o. one) tt
+rises = each (λ o. snap (input o)) (λ o. unitsOfOne) tt
 
 loses : (o : ℕ) → o ≤ 15 → scaled (snap (input o)) ≤ input o
 unfolding input snap scaled size
 loses = each (λ o. scaled (snap (input o))) input tt
 
 -- at capacitor 1
-falls : (o : ℕ) → o ≤ 15 → snap (one - input o) ≤ one
+falls : (o : ℕ) → o ≤ 15 → snap (unitsOfOne - input o) ≤ unitsOfOne
 unfolding input snap size
-falls = each (λ o. snap (one - input o)) (λ o. one) tt
+falls = each (λ o. snap (unitsOfOne - input o)) (λ o. unitsOfOne) tt
 
-gains : (o : ℕ) → o ≤ 15 → scaled (snap (one - input o)) ≤ one
+gains : (o : ℕ) → o ≤ 15 → scaled (snap (unitsOfOne - input o)) ≤ unitsOfOne
 unfolding input snap scaled size
-gains = each (λ o. scaled (snap (one - input o))) (λ o. one) tt
+gains = each (λ o. scaled (snap (unitsOfOne - input o))) (λ o. unitsOfOne) tt
 
-tops : (o : ℕ) → o ≤ 15 → snap (input o + scaled (snap (one - input o))) ≤ one
+tops : (o : ℕ) → o ≤ 15 → snap (input o + scaled (snap (unitsOfOne - input o))) ≤ unitsOfOne
 unfolding input snap scaled size
-tops = each (λ o. snap (input o + scaled (snap (one - input o)))) (λ o. one) tt
+tops = each (λ o. snap (input o + scaled (snap (unitsOfOne - input o)))) (λ o. unitsOfOne) tt
 
 -- ---- a float that a fraction was rounded to, by its units
-under : (a : ℕ) → a ≤ one → a < overflow binary32
+under : (a : ℕ) → a ≤ unitsOfOne → a < overflow binary32
 under a h = lt-of-le-of-lt h (lit< tt)
 
-pub lands : (x : Float) (s : Bool) (a c : ℕ) → x ≡ round binary32 s a c → grid binary32 a c ≤ one → HasValue x s (grid binary32 a c) one
-lands x s a c e h = subst (λ (z : Float). HasValue z s (grid binary32 a c) one) (sym e) (rounded binary32 s a c (under (grid binary32 a c) h))
+pub lands : (x : Float) (s : Bool) (a c : ℕ) → x ≡ round binary32 s a c → grid binary32 a c ≤ unitsOfOne → HasValue x s (grid binary32 a c) unitsOfOne
+lands x s a c e h = subst (λ (z : Float). HasValue z s (grid binary32 a c) unitsOfOne) (sym e) (rounded binary32 s a c (under (grid binary32 a c) h))
 
-snapped : (x : Float) (s : Bool) (a : ℕ) → x ≡ round binary32 s a one → snap a ≤ one → HasValue x s (snap a) one
+snapped : (x : Float) (s : Bool) (a : ℕ) → x ≡ round binary32 s a unitsOfOne → snap a ≤ unitsOfOne → HasValue x s (snap a) unitsOfOne
 unfolding snap
-snapped x s a e h = lands x s a one e h
+snapped x s a e h = lands x s a unitsOfOne e h
 
-kept : (x : Float) (s : Bool) (g : ℕ) → HasValue x s g one → scaled g ≤ one → HasValue (mul binary32 x keep) (unlike s false) (scaled g) one
+kept : (x : Float) (s : Bool) (g : ℕ) → HasValue x s g unitsOfOne → scaled g ≤ unitsOfOne → HasValue (mul binary32 x keep) (unlike s false) (scaled g) unitsOfOne
 unfolding scaled
-kept x s g v h = lands (mul binary32 x keep) (unlike s false) (g * 16710107) (one * 2 ^ 24) (mul-is binary32 x keep s false g one 16710107 (2 ^ 24) (pow-pos 149) (pow-pos 24) v keep-value) h
+kept x s g v h = lands (mul binary32 x keep) (unlike s false) (g * 16710107) (unitsOfOne * 2 ^ 24) (mul-is binary32 x keep s false g unitsOfOne 16710107 (2 ^ 24) (pow-pos 149) (pow-pos 24) v keep-value) h
 
 -- a small whole number as an f32
 pub int-value : (n : ℕ) → n ≤ 15 → HasValue (ofInt binary32 (pos n)) false n 1
 unfolding ofInt
 int-value n h = round-whole binary32 false n (le-trans h (lit≤ tt))
 
-input-value : (o : ℕ) → o ≤ 15 → HasValue (inOf o) false (input o) one
+input-value : (o : ℕ) → o ≤ 15 → HasValue (inOf o) false (input o) unitsOfOne
 unfolding input
 input-value o h =
     lands (inOf o) false o 15
@@ -137,11 +137,11 @@ size-of nan s a c p = p
 size-of (inf t) s a c p = p
 size-of (fin t m e) s a c p = p .1
 
-pub sized : (k : ℕ) (x : Float) (s : Bool) (a : ℕ) → HasValue x s a one → a ≤ k → Within k x
-sized k x s a v h = record { units = a; is = size-of x s a one v; most = h }
+pub sized : (k : ℕ) (x : Float) (s : Bool) (a : ℕ) → HasValue x s a unitsOfOne → a ≤ k → Within k x
+sized k x s a v h = record { units = a; is = size-of x s a unitsOfOne v; most = h }
 
-pub silent : Within one f0
-silent = sized one f0 false 0 f0-value zero-le
+pub silent : Within unitsOfOne f0
+silent = sized unitsOfOne f0 false 0 f0-value zero-le
 
 either : (a b : ℕ) → a < b ⊎ b ≤ a
 either a b = go (ltb a b) (ltb→lt a b) (nltb→le a b)
@@ -158,25 +158,25 @@ module _ (c : Float) (C : Charge c) (o : ℕ) (O : o ≤ 15) where
   up-most : snap (input o - C .units) ≤ snap (input o)
   up-most = snap-le (input o - C .units) (input o) (sub-le (input o) (C .units))
 
-  down-most : snap (C .units - input o) ≤ snap (one - input o)
-  down-most = snap-le (C .units - input o) (one - input o) (fewer (C .units) one (input o) (C .most))
+  down-most : snap (C .units - input o) ≤ snap (unitsOfOne - input o)
+  down-most = snap-le (C .units - input o) (unitsOfOne - input o) (fewer (C .units) unitsOfOne (input o) (C .most))
 
-  out-up : C .units ≤ input o → HasValue (outOf c o) false (snap (input o - C .units)) one
+  out-up : C .units ≤ input o → HasValue (outOf c o) false (snap (input o - C .units)) unitsOfOne
   out-up h =
       snapped (outOf c o) false (input o - C .units)
-      (sub-is binary32 (inOf o) c false false (input o) (C .units) one (pow-pos 149) (input-value o O) (C .is) ∙ up-sum binary32 (input o) (C .units) one h)
+      (sub-is binary32 (inOf o) c false false (input o) (C .units) unitsOfOne (pow-pos 149) (input-value o O) (C .is) ∙ up-sum binary32 (input o) (C .units) unitsOfOne h)
       (le-trans up-most (rises o O))
 
-  out-down : input o < C .units → HasValue (outOf c o) true (snap (C .units - input o)) one
+  out-down : input o < C .units → HasValue (outOf c o) true (snap (C .units - input o)) unitsOfOne
   out-down h =
       snapped (outOf c o) true (C .units - input o)
-      (sub-is binary32 (inOf o) c false false (input o) (C .units) one (pow-pos 149) (input-value o O) (C .is) ∙ down-sum binary32 (input o) (C .units) one h)
+      (sub-is binary32 (inOf o) c false false (input o) (C .units) unitsOfOne (pow-pos 149) (input-value o O) (C .is) ∙ down-sum binary32 (input o) (C .units) unitsOfOne h)
       (le-trans down-most (falls o O))
 
-  out-within : Within one (outOf c o)
+  out-within : Within unitsOfOne (outOf c o)
   out-within = elim (either (input o) (C .units)) [
-    | inl h ↦ sized one (outOf c o) true (snap (C .units - input o)) (out-down h) (le-trans down-most (falls o O))
-    | inr h ↦ sized one (outOf c o) false (snap (input o - C .units)) (out-up h) (le-trans up-most (rises o O))
+    | inl h ↦ sized unitsOfOne (outOf c o) true (snap (C .units - input o)) (out-down h) (le-trans down-most (falls o O))
+    | inr h ↦ sized unitsOfOne (outOf c o) false (snap (input o - C .units)) (out-up h) (le-trans up-most (rises o O))
   ]
 
   next-up : C .units ≤ input o → Charge (charged c o)
@@ -184,11 +184,11 @@ module _ (c : Float) (C : Charge c) (o : ℕ) (O : o ≤ 15) where
       let g = snap (input o - C .units) in
       let p = scaled g in
       let P : p ≤ input o = le-trans (scaled-le g (snap (input o)) up-most) (loses o O) in
-      let most : snap (input o - p) ≤ one = le-trans (snap-le (input o - p) (input o) (sub-le (input o) p)) (rises o O) in
-      let W : HasValue (mul binary32 (outOf c o) keep) false p one = kept (outOf c o) false g (out-up h) (le-trans P (whole o O)) in
+      let most : snap (input o - p) ≤ unitsOfOne = le-trans (snap-le (input o - p) (input o) (sub-le (input o) p)) (rises o O) in
+      let W : HasValue (mul binary32 (outOf c o) keep) false p unitsOfOne = kept (outOf c o) false g (out-up h) (le-trans P (whole o O)) in
       record {
         units = snap (input o - p);
-        is = snapped (charged c o) false (input o - p) (sub-is binary32 (inOf o) (mul binary32 (outOf c o) keep) false false (input o) p one (pow-pos 149) (input-value o O) W ∙ up-sum binary32 (input o) p one P) most;
+        is = snapped (charged c o) false (input o - p) (sub-is binary32 (inOf o) (mul binary32 (outOf c o) keep) false false (input o) p unitsOfOne (pow-pos 149) (input-value o O) W ∙ up-sum binary32 (input o) p unitsOfOne P) most;
         most = most;
       }
 
@@ -196,12 +196,12 @@ module _ (c : Float) (C : Charge c) (o : ℕ) (O : o ≤ 15) where
   next-down h =
       let g = snap (C .units - input o) in
       let p = scaled g in
-      let P : p ≤ scaled (snap (one - input o)) = scaled-le g (snap (one - input o)) down-most in
-      let most : snap (input o + p) ≤ one = le-trans (snap-le (input o + p) (input o + scaled (snap (one - input o))) (omega arith)) (tops o O) in
-      let W : HasValue (mul binary32 (outOf c o) keep) true p one = kept (outOf c o) true g (out-down h) (le-trans P (gains o O)) in
+      let P : p ≤ scaled (snap (unitsOfOne - input o)) = scaled-le g (snap (unitsOfOne - input o)) down-most in
+      let most : snap (input o + p) ≤ unitsOfOne = le-trans (snap-le (input o + p) (input o + scaled (snap (unitsOfOne - input o))) (omega arith)) (tops o O) in
+      let W : HasValue (mul binary32 (outOf c o) keep) true p unitsOfOne = kept (outOf c o) true g (out-down h) (le-trans P (gains o O)) in
       record {
         units = snap (input o + p);
-        is = snapped (charged c o) false (input o + p) (sub-is binary32 (inOf o) (mul binary32 (outOf c o) keep) false true (input o) p one (pow-pos 149) (input-value o O) W ∙ plus-sum binary32 (input o) p one) most;
+        is = snapped (charged c o) false (input o + p) (sub-is binary32 (inOf o) (mul binary32 (outOf c o) keep) false true (input o) p unitsOfOne (pow-pos 149) (input-value o O) W ∙ plus-sum binary32 (input o) p unitsOfOne) most;
         most = most;
       }
 
@@ -218,7 +218,7 @@ unfolding stepped
 stepped-held d o true h C = C
 stepped-held d o false h C = record { single = sub-fits binary32 (inOf o) (mul binary32 (outOf (d .capacitor) o) keep); charge = next (d .capacitor) (C .charge) o h }
 
-pub stepped-within : (d : Converter) (o : ℕ) (muted : Bool) → o ≤ 15 → Held d → Within one (stepped d o muted .«dac_out»)
+pub stepped-within : (d : Converter) (o : ℕ) (muted : Bool) → o ≤ 15 → Held d → Within unitsOfOne (stepped d o muted .«dac_out»)
 unfolding stepped
 stepped-within d o true h C = silent
 stepped-within d o false h C = out-within (d .capacitor) (C .charge) o h

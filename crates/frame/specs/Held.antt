@@ -9,8 +9,8 @@ use Rattle.frame.specs.declared.converter.Converter.{Converter}
 use Rattle.frame.specs.declared.mixing.Sides.{Sides}
 
 -- 1.0 in units of 2 ^ -149
-abbrev pub one : ℕ
-one = 2 ^ 149
+abbrev pub unitsOfOne : ℕ
+unitsOfOne = 2 ^ 149
 
 -- the f32 nearest to 0.2, 3E4CCCCD, in those units
 abbrev pub fifth : ℕ
@@ -19,8 +19,8 @@ fifth = 13421773 * 2 ^ 123
 -- c lies from 0 to 1: finite, without a sign, and exactly so many units, no more than 1.0 has
 pub record Charge (c : Float) : Type 0 where
   pub units : ℕ
-  pub is : HasValue c false units one
-  pub most : units ≤ one
+  pub is : HasValue c false units unitsOfOne
+  pub most : units ≤ unitsOfOne
 
 -- a converter's range: its capacitor is an f32, from 0 to 1
 pub record Held (d : Converter) : Type 0 where
@@ -30,7 +30,7 @@ pub record Held (d : Converter) : Type 0 where
 -- x is finite and, whatever its sign, exactly so many units in size, no more than k
 pub record Within (k : ℕ) (x : Float) : Type 0 where
   pub units : ℕ
-  pub is : Equals x units one
+  pub is : Equals x units unitsOfOne
   pub most : units ≤ k
 
 -- x is a number: no NaN

@@ -28,6 +28,7 @@ pub fn side_of(sample: f32, volume: u8, selected: bool) -> f32
     if selected {
         return part * loud / 5.0;
     }
+    // apu.rs divides every side by 5, one that is not selected too; it comes to 0.0
     0.0 / 5.0
 }
 

@@ -5,8 +5,8 @@ use lib.Dec.{eqb, leb}
 use Rattle.ground.specs.Pick.{pick}
 
 -- of sweep and envelope: "reloads the counter (period, 0 as 8)"
-unfoldable pub reloadOf : ℕ → ℕ
-reloadOf period = pick (eqb period 0) 8 period
+unfoldable pub zeroAsEight : ℕ → ℕ
+zeroAsEight period = pick (eqb period 0) 8 period
 
 -- the unit's own addresses: "FF10..FF3F"
 abbrev pub isSound : ℕ → Bool

@@ -2,11 +2,11 @@
 use Prim.Native.Nat.{ℕ, _+_, _-_, _/_, _%_}
 use lib.Dec.{leb}
 use Rattle.ground.specs.Pick.{pick}
-use Rattle.ground.specs.declared.timer.Run.{Run}
+use Rattle.ground.specs.declared.timer.CountedDown.{CountedDown}
 
 -- n clocks: the first `timer` of them only take 1 off, the next one is a step, and so is every `period`-th after it
 -- (clock by clock it is the same: `counted` of proofs/Timers.antt)
-unfoldable pub countedDown : ℕ → ℕ → ℕ → Run
+unfoldable pub countedDown : ℕ → ℕ → ℕ → CountedDown
 countedDown timer period n =
     let past = n - timer - 1 in
     pick (leb n timer)

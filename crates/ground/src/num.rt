@@ -1,7 +1,7 @@
 // Helpers on small numbers: what the Rust takes from the standard library or writes as a mask.
 ghost use mathlib.Core.Path.{_≡_};
 ghost use Prim.Native.Nat.{_-_, _≤_};
-ghost use Rattle.ground.specs.Num.{reloadOf};
+ghost use Rattle.ground.specs.Num.{zeroAsEight};
 ghost use Rattle.ground.specs.Pick.{pick};
 
 // The difference, and not below 0.
@@ -44,7 +44,7 @@ pub fn flag32(set: bool, weight: u32) -> u32
 
 // What a sweep's or an envelope's counter reloads to: the period, where 0 counts as 8.
 pub fn reload(period: u8) -> u8
-    ensures { λ r. ⌜ r ≡ reloadOf period ⌝ }
+    ensures { λ r. ⌜ r ≡ zeroAsEight period ⌝ }
 {
     if period == 0 { 8 } else { period }
 }

@@ -74,7 +74,7 @@ pub record Turn (s : List ℕ) (power : Bool) (r : Reckoned) (c : Clocks) (some 
   pub right : not (c .right) ≡ false
   pub first : 1 ≤ some
   pub within : some ≤ c .count - r .call
-  pub one : OneBit (c .double) (standing (c .divider)) (r .call) some
+  pub sameBit : OneBit (c .double) (standing (c .divider)) (r .call) some
   pub is : m ≡ metOf (r .half) power (r .stored) (c .double) (bitOf (c .double) (dividerAt (standing (c .divider)) (r .call))) some
 
 pub turn-of : {s : List ℕ} {power : Bool} {r : Reckoned} {c : Clocks} {some v : ℕ} {bit : Bool} {m : Met}
@@ -88,7 +88,7 @@ turn-of {power = power} {r} {c} {some} found right stretch ve be me =
       right = right;
       first = stretch .0 .0;
       within = stretch .0 .1;
-      one = stretch .1;
+      sameBit = stretch .1;
       is = me ∙ ap (λ (b : Bool). metOf (r .half) power (r .stored) (c .double) b some) (be ∙ ap (bitOf (c .double)) ve);
     }
 
@@ -123,7 +123,7 @@ module _ {s : List ℕ} {power : Bool} {r : Reckoned} {c : Clocks} {some : ℕ} 
   meets a e =
       record {
         split = omega (arith, t .within);
-        one = t .one;
+        sameBit = t .sameBit;
         is = t .is ∙ ap (λ (p : Bool). metOf (r .half) p (r .stored) d bit some) (sym e);
       }
 

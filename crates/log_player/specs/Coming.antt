@@ -70,5 +70,5 @@ pub record Reckons (s : List ℕ) (at call more : ℕ) (power : Bool) (half : �
   pub less : ahead s (r .at) (r .call) * 65536 + r .owed + r .more ≤ ahead s at call * 65536 + more
 
 -- nothing is owed: the place is before a record
-abbrev pub Still : Reckoned → Type 0
-Still r = (r .call ≡ 0) × ((r .more ≡ 0) × (r .fell ≡ false))
+abbrev pub Idle : Reckoned → Type 0
+Idle r = (r .call ≡ 0) × ((r .more ≡ 0) × (r .fell ≡ false))

@@ -4,13 +4,13 @@ use mathlib.Core.List.{List}
 use lib.ListN.{length, getD}
 use Rattle.log_records.specs.Records.{listed}
 use Rattle.log_scan.specs.Answers.{scannedAs, withinRoom}
-use Rattle.log_scan.specs.declared.answer.Played.{Played}
-use Rattle.log_player.specs.Playing.{started, output}
+use Rattle.log_scan.specs.declared.answer.LogAnswer.{LogAnswer}
+use Rattle.log_player.specs.Playing.{unitOfStart, output}
 
 -- the bytes of a log's records, from the unit that its start byte asks for
-abbrev pub outputOf : List ℕ → List ℕ
-outputOf s = output (listed s) (started (getD s 1 0))
+abbrev pub bytesOfLog : List ℕ → List ℕ
+bytesOfLog s = output (listed s) (unitOfStart (getD s 1 0))
 
 -- "3 to 6 are tried in that order", in an output of `room` bytes; the bytes written, or needed, are those above
-abbrev pub playedOf : List ℕ → ℕ → Played
-playedOf s room = withinRoom room (scannedAs (length (outputOf s)) s)
+abbrev pub answerOf : List ℕ → ℕ → LogAnswer
+answerOf s room = withinRoom room (scannedAs (length (bytesOfLog s)) s)

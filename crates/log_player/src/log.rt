@@ -2,19 +2,19 @@
 ghost use mathlib.Core.Path.{_≡_};
 ghost use lib.ListN.{length};
 ghost use Rattle.log_scan.specs.Answers.{outAfter};
-ghost use Rattle.log_player.specs.Logs.{outputOf, playedOf};
+ghost use Rattle.log_player.specs.Logs.{bytesOfLog, answerOf};
 use crate::play::play_list;
 use crate::play::start;
 use apu_run::calls::Play;
-use log_scan::answer::Played;
+use log_scan::answer::LogAnswer;
 use log_scan::answer::is_done;
 use log_scan::answer::scan;
 use log_scan::answer::within;
 
 // Plays a log into the output, or refuses it and writes nothing.
-pub fn play_log(log: &[u8], out: &mut [u8]) -> Played
-    ensures { λ r. ⌜ r ≡ playedOf (now (log .entry)) (length (now (out .entry))) ⌝ }
-    ensures { λ r. ⌜ now (out .exit) ≡ outAfter r (outputOf (now (log .entry))) (now (out .entry)) ⌝ }
+pub fn play_log(log: &[u8], out: &mut [u8]) -> LogAnswer
+    ensures { λ r. ⌜ r ≡ answerOf (now (log .entry)) (length (now (out .entry))) ⌝ }
+    ensures { λ r. ⌜ now (out .exit) ≡ outAfter r (bytesOfLog (now (log .entry))) (now (out .entry)) ⌝ }
 {
     let answer = within(scan(log), out.len());
     if is_done(answer) {

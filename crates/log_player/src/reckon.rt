@@ -1,7 +1,7 @@
 // What clock records come to, in numbers: how many working clocks the unit owes, over as many records as follow each other. The unit itself is not needed.
 ghost use mathlib.Core.Path.{_≡_};
 ghost use Prim.Native.Nat.{_≤_};
-ghost use Rattle.log_player.specs.Coming.{beginsAt, Between, Reckons, Still};
+ghost use Rattle.log_player.specs.Coming.{beginsAt, Between, Reckons, Idle};
 use apu_clock::sequencer::sequencer_bit;
 use apu_run::calls::Divider;
 use apu_run::calls::divider_at;
@@ -41,7 +41,7 @@ pub fn reckon(log: &[u8], from: Reckoned, power: bool, half: u8, stored: bool) -
     requires { ⌜ from .more ≤ 16383 ⌝ }
     requires { ⌜ half ≤ 1 ⌝ }
     ensures { λ r. ⌜ Reckons (now (log .entry)) (from .at) (from .call) (from .more) power half stored r ⌝ }
-    ensures { λ r. ⌜ (r .owed ≡ 0 → Still r) ⌝ }
+    ensures { λ r. ⌜ (r .owed ≡ 0 → Idle r) ⌝ }
 {
     let mut r = from;
     r.owed = from.more;

@@ -16,11 +16,11 @@ use Rattle.log_records.specs.declared.cut.Cut.{Cut}
 use Rattle.log_records.specs.declared.cut.Cut.the-variants.{End, Short, Body}
 use Rattle.log_scan.specs.declared.scan.Mark.{Mark}
 use Rattle.log_scan.specs.declared.scan.Mark.the-variants.{Clear, At}
-use Rattle.log_scan.specs.declared.answer.Played.{Played}
-use Rattle.log_scan.specs.declared.answer.Played.the-variants.{Done, TooLong, BadStart, WrongRecord, TooShort}
+use Rattle.log_scan.specs.declared.answer.LogAnswer.{LogAnswer}
+use Rattle.log_scan.specs.declared.answer.LogAnswer.the-variants.{Done, TooLong, BadStart, WrongRecord, TooShort}
 use Rattle.log_records.specs.Judge.{word, writeOf, readOf, clockOf, pcmOf, judgeOf}
 use Rattle.log_records.specs.Records.{Parsed, cutAt, bodyAt, grow, parse, recordsFrom, unrolled, listed}
-use Rattle.log_scan.specs.Sums.{asks, halvesOf, readsOf, sumOf}
+use Rattle.log_scan.specs.Sums.{asks, halvesOf, readBytesOf, sumOf}
 use Rattle.log_scan.specs.Scan.{orMark, wrongMark, wrongIn, summed}
 use Rattle.log_scan.specs.Answers.{refusalOf, returnedOf, bytesBy, orWrong, scannedAs, scannedOf, withinRoom, Small}
 use Rattle.clocks.proofs.Totals.{frames-le}
@@ -29,14 +29,14 @@ use Rattle.log_records.proofs.Framing.{body-fits}
 pub record Low (r : Record) : Type 0 where
   pub calls : asks r ≤ 16384
   pub halves : halvesOf r ≤ 32768
-  pub reads : readsOf r ≤ 3
+  pub «read_bytes» : readBytesOf r ≤ 3
 
-nothing-low : (r : Record) → asks r ≡ 0 → halvesOf r ≡ 0 → readsOf r ≤ 3 → Low r
-nothing-low r a h l = record { calls = omega arith; halves = omega arith; reads = l }
+nothing-low : (r : Record) → asks r ≡ 0 → halvesOf r ≡ 0 → readBytesOf r ≤ 3 → Low r
+nothing-low r a h l = record { calls = omega arith; halves = omega arith; «read_bytes» = l }
 
 clock-low : (d : Bool) (v k : ℕ) → k ≤ 16384 → Low (Clock d v k)
-clock-low true v k h = record { calls = h; halves = omega arith; reads = omega arith }
-clock-low false v k h = record { calls = h; halves = omega arith; reads = omega arith }
+clock-low true v k h = record { calls = h; halves = omega arith; «read_bytes» = omega arith }
+clock-low false v k h = record { calls = h; halves = omega arith; «read_bytes» = omega arith }
 
 wrong-low : Low Wrong
 wrong-low = nothing-low Wrong refl refl (omega arith)
@@ -102,17 +102,17 @@ module _ (s : List ℕ) (h : length s ≤ 65536) where
   pub halves-low : sumOf halvesOf (listed s) ≤ 2147483648
   halves-low = records-low halvesOf 32768 (λ b. judged-low b .halves) s h
 
-  pub reads-low : sumOf readsOf (listed s) ≤ 196608
-  reads-low = records-low readsOf 3 (λ b. judged-low b .reads) s h
+  pub read-bytes-low : sumOf readBytesOf (listed s) ≤ 196608
+  read-bytes-low = records-low readBytesOf 3 (λ b. judged-low b .«read_bytes») s h
 
   pub count-low : length (listed s) ≤ 65536
   count-low = rw (← each-one (listed s)) (records-low (λ r. 1) 1 (λ b. le-refl 1) s h)
 
   bytes-low : bytesBy (summed (listed s)) < 281474976710656
-  bytes-low = let f = frames-le (sumOf halvesOf (listed s)) in omega (arith, halves-low, reads-low)
+  bytes-low = let f = frames-le (sumOf halvesOf (listed s)) in omega (arith, halves-low, read-bytes-low)
 
   pub small : Small (summed (listed s))
-  small = record { halves = omega (arith, halves-low); reads = omega (arith, reads-low) }
+  small = record { halves = omega (arith, halves-low); «read_bytes» = omega (arith, read-bytes-low) }
 
 -- ---- the number returned stays in 48 bits
 
@@ -155,10 +155,10 @@ parsed-inside zero s at = omega arith
 parsed-inside (suc n) s at = first-inside s at (parse n s) (cutAt s at) refl (λ k. parsed-inside n s (at + 2 + k))
 
 -- whatever the answer is made from
-abbrev pub Packs : Played → Type 0
+abbrev pub Packs : LogAnswer → Type 0
 Packs a = returnedOf a < 2 ^ 48
 
-room-packs : (room : ℕ) (a : Played) → Packs a → Packs (withinRoom room a)
+room-packs : (room : ℕ) (a : LogAnswer) → Packs a → Packs (withinRoom room a)
 unfolding withinRoom
 room-packs room (Done w f k r) h = both-ways Packs _ h h
 room-packs room TooLong h = h
@@ -166,7 +166,7 @@ room-packs room BadStart h = h
 room-packs room (WrongRecord p) h = h
 room-packs room (TooShort n) h = h
 
-wrong-packs : (top : ℕ) (m : Mark) (a : Played) → top ≤ 65536 → Inside top m → Packs a → Packs (orWrong m a)
+wrong-packs : (top : ℕ) (m : Mark) (a : LogAnswer) → top ≤ 65536 → Inside top m → Packs a → Packs (orWrong m a)
 wrong-packs top Clear a t i h = h
 wrong-packs top (At p) a t i h = omega arith
 
@@ -181,7 +181,7 @@ scanned-packs s =
 pub answer-packs : (room : ℕ) (s : List ℕ) → Packs (withinRoom room (scannedOf s))
 answer-packs room s = room-packs room (scannedOf s) (scanned-packs s)
 
-pub refusal-le : (a : Played) → refusalOf a ≤ 6
+pub refusal-le : (a : LogAnswer) → refusalOf a ≤ 6
 refusal-le (Done w f k r) = omega arith
 refusal-le TooLong = omega arith
 refusal-le BadStart = omega arith

@@ -14,7 +14,7 @@ use Rattle.log_records.specs.Records.{Parsed, item, cutAt, recordsFrom, unrolle
 use Rattle.log_scan.specs.Sums.{sumOf}
 use Rattle.log_scan.specs.Scan.{Fits, orMark, wrongIn, both, nothing, foundIn, foundAll}
 use Rattle.log_records.proofs.Framing.{at-end, at-short}
-use Rattle.log_scan.proofs.Bounds.{calls-low, halves-low, reads-low, count-low}
+use Rattle.log_scan.proofs.Bounds.{calls-low, halves-low, read-bytes-low, count-low}
 
 or-assoc : (a b c : Mark) → orMark (orMark a b) c ≡ orMark a (orMark b c)
 or-assoc Clear b c = refl
@@ -31,14 +31,14 @@ both-assoc a b c =
       add-assoc (a .sums .records) (b .sums .records) (c .sums .records),
       add-assoc (a .sums .calls) (b .sums .calls) (c .sums .calls),
       add-assoc (a .sums .halves) (b .sums .halves) (c .sums .halves),
-      add-assoc (a .sums .reads) (b .sums .reads) (c .sums .reads),
+      add-assoc (a .sums .«read_bytes») (b .sums .«read_bytes») (c .sums .«read_bytes»),
     )
 
 both-none : (a : Found) → both a (nothing Clear) ≡ a
-both-none a = rw (or-none (a .wrong), add-zero (a .sums .records), add-zero (a .sums .calls), add-zero (a .sums .halves), add-zero (a .sums .reads))
+both-none a = rw (or-none (a .wrong), add-zero (a .sums .records), add-zero (a .sums .calls), add-zero (a .sums .halves), add-zero (a .sums .«read_bytes»))
 
 none-both : (a : Found) → both (nothing Clear) a ≡ a
-none-both a = rw (zero-add (a .sums .records), zero-add (a .sums .calls), zero-add (a .sums .halves), zero-add (a .sums .reads))
+none-both a = rw (zero-add (a .sums .records), zero-add (a .sums .calls), zero-add (a .sums .halves), zero-add (a .sums .«read_bytes»))
 
 one-more : (n : ℕ) → 1 + n ≡ suc n
 one-more n = omega arith
@@ -73,7 +73,7 @@ module _ {s : List ℕ} {at : ℕ} {t : Found} (g : Going s at t) where
         records = rw (add-zero (t .sums .records)) (part _ (rest .sums .records) _ _ (ap (λ (x : Found). x .sums .records) (g .state)) (count-low s h) (omega arith));
         calls = rw (add-zero (t .sums .calls)) (part _ (rest .sums .calls) _ _ (ap (λ (x : Found). x .sums .calls) (g .state)) (calls-low s h) (omega arith));
         halves = rw (add-zero (t .sums .halves)) (part _ (rest .sums .halves) _ _ (ap (λ (x : Found). x .sums .halves) (g .state)) (halves-low s h) (omega arith));
-        reads = rw (add-zero (t .sums .reads)) (part _ (rest .sums .reads) _ _ (ap (λ (x : Found). x .sums .reads) (g .state)) (reads-low s h) (omega arith));
+        «read_bytes» = rw (add-zero (t .sums .«read_bytes»)) (part _ (rest .sums .«read_bytes») _ _ (ap (λ (x : Found). x .sums .«read_bytes») (g .state)) (read-bytes-low s h) (omega arith));
       }
 
   pub cut-short : cutAt s at ≡ Short → both t (nothing (At at)) ≡ foundAll (recordsFrom s 2)
@@ -100,5 +100,5 @@ module _ {s : List ℕ} {at : ℕ} {t : Found} (g : Going s at t) where
           records = part _ (rest .sums .records) _ _ (ap (λ (x : Found). x .sums .records) state) (count-low s h) (omega arith);
           calls = part _ (rest .sums .calls) _ _ (ap (λ (x : Found). x .sums .calls) state) (calls-low s h) (omega arith);
           halves = part _ (rest .sums .halves) _ _ (ap (λ (x : Found). x .sums .halves) state) (halves-low s h) (omega arith);
-          reads = part _ (rest .sums .reads) _ _ (ap (λ (x : Found). x .sums .reads) state) (reads-low s h) (omega arith);
+          «read_bytes» = part _ (rest .sums .«read_bytes») _ _ (ap (λ (x : Found). x .sums .«read_bytes») state) (read-bytes-low s h) (omega arith);
         }

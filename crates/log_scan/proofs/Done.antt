@@ -9,8 +9,8 @@ use lib.ListN.{length, drop}
 use lib.Dec.{ltb}
 use Rattle.ground.specs.Pick.{pick}
 use Rattle.ground.proofs.Cases.{pick-holds}
-use Rattle.log_scan.specs.declared.answer.Played.{Played}
-use Rattle.log_scan.specs.declared.answer.Played.the-variants.{Done, TooLong, BadStart, WrongRecord, TooShort}
+use Rattle.log_scan.specs.declared.answer.LogAnswer.{LogAnswer}
+use Rattle.log_scan.specs.declared.answer.LogAnswer.the-variants.{Done, TooLong, BadStart, WrongRecord, TooShort}
 use Rattle.log_scan.specs.declared.scan.Mark.{Mark}
 use Rattle.log_scan.specs.declared.scan.Mark.the-variants.{Clear, At}
 use Rattle.log_records.specs.Records.{recordsFrom, listed}
@@ -31,7 +31,7 @@ never : (m n : ℕ) → false ≡ true → m ≤ n
 never m n e = let f : _≡_ {A = ℕ} 0 1 = cc in omega arith
 
 -- what being done says
-abbrev Says : Type 0 → Played → Type 0
+abbrev Says : Type 0 → LogAnswer → Type 0
 Says P a = isDone a ≡ true → P
 
 pub scanned-long : (n : ℕ) (s : List ℕ) → isDone (scannedAs n s) ≡ true → 2 ≤ length s
@@ -42,7 +42,7 @@ scanned-long n s =
 
 module _ (room : ℕ) where
   -- what was done with less room was done
-  scanned : (a : Played) → isDone (withinRoom room a) ≡ true → isDone a ≡ true
+  scanned : (a : LogAnswer) → isDone (withinRoom room a) ≡ true → isDone a ≡ true
   unfolding withinRoom
   scanned (Done w f k r) d = refl
   scanned TooLong d = d
@@ -63,7 +63,7 @@ module _ (room : ℕ) where
     pub done-long : isDone (withinRoom room (scannedAs n s)) ≡ true → 2 ≤ length s
     done-long d = scanned-long n s (scanned (scannedAs n s) d)
 
-    abbrev Fits : Played → Type 0
+    abbrev Fits : LogAnswer → Type 0
     Fits a = isDone (withinRoom room a) ≡ true → n ≤ room
 
     marked : (m : Mark) → Fits (orWrong m (doneAs n (summed (listed s))))
@@ -78,14 +78,14 @@ module _ (room : ℕ) where
         (λ _. pick-holds Fits _ _ _ (λ _ d. never _ _ d) (λ e. marked (wrongIn (recordsFrom s 2))))
 
 -- the output after it
-pub done-out : (a : Played) (bytes out : List ℕ) → isDone a ≡ true → outAfter a bytes out ≡ bytes ++ drop (length bytes) out
+pub done-out : (a : LogAnswer) (bytes out : List ℕ) → isDone a ≡ true → outAfter a bytes out ≡ bytes ++ drop (length bytes) out
 done-out (Done w f k r) bytes out e = refl
 done-out TooLong bytes out e = cc
 done-out BadStart bytes out e = cc
 done-out (WrongRecord p) bytes out e = cc
 done-out (TooShort n) bytes out e = cc
 
-pub refused-out : (a : Played) (bytes out : List ℕ) → isDone a ≡ false → outAfter a bytes out ≡ out
+pub refused-out : (a : LogAnswer) (bytes out : List ℕ) → isDone a ≡ false → outAfter a bytes out ≡ out
 refused-out (Done w f k r) bytes out e = cc
 refused-out TooLong bytes out e = refl
 refused-out BadStart bytes out e = refl

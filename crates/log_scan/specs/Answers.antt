@@ -7,8 +7,8 @@ use lib.Dec.{ltb, leb, eqb}
 use lib.Seq.{sets}
 use Rattle.ground.specs.Pick.{pick}
 use Rattle.clocks.specs.Metered.{framesOf}
-use Rattle.log_scan.specs.declared.answer.Played.{Played}
-use Rattle.log_scan.specs.declared.answer.Played.the-variants.{Done, TooLong, BadStart, WrongRecord, TooShort}
+use Rattle.log_scan.specs.declared.answer.LogAnswer.{LogAnswer}
+use Rattle.log_scan.specs.declared.answer.LogAnswer.the-variants.{Done, TooLong, BadStart, WrongRecord, TooShort}
 use Rattle.log_scan.specs.declared.scan.Mark.{Mark}
 use Rattle.log_scan.specs.declared.scan.Mark.the-variants.{Clear, At}
 use Rattle.log_scan.specs.declared.scan.Sums.{Sums}
@@ -16,7 +16,7 @@ use Rattle.log_records.specs.Records.{recordsFrom, listed}
 use Rattle.log_scan.specs.Scan.{wrongIn, summed}
 
 -- the refusal's number in document 01; 0 stands for none
-abbrev pub refusalOf : Played → ℕ
+abbrev pub refusalOf : LogAnswer → ℕ
 refusalOf (Done written frames clocks records) = 0
 refusalOf TooLong = 3
 refusalOf BadStart = 4
@@ -24,7 +24,7 @@ refusalOf (WrongRecord place) = 5
 refusalOf (TooShort needed) = 6
 
 -- "bytes written or number returned"
-abbrev pub returnedOf : Played → ℕ
+abbrev pub returnedOf : LogAnswer → ℕ
 returnedOf (Done written frames clocks records) = written
 returnedOf TooLong = 0
 returnedOf BadStart = 0
@@ -32,11 +32,11 @@ returnedOf (WrongRecord place) = place
 returnedOf (TooShort needed) = needed
 
 -- "result refusal × 2^48 + bytes written or number returned"
-abbrev pub packed : Played → ℕ
+abbrev pub packed : LogAnswer → ℕ
 packed a = refusalOf a * 2 ^ 48 + returnedOf a
 
 -- whether it is no refusal
-abbrev pub isDone : Played → Bool
+abbrev pub isDone : LogAnswer → Bool
 isDone (Done written frames clocks records) = true
 isDone TooLong = false
 isDone BadStart = false
@@ -49,33 +49,33 @@ badStart s = pick (ltb (length s) 2) true (not (eqb (getD s 0 0) 1) || ltb 3 (ge
 
 -- the bytes that playing makes: 41 for a frame ("hex 46 and ten f32 patterns"), and those of reads
 abbrev pub bytesBy : Sums → ℕ
-bytesBy sums = framesOf (sums .halves) * 41 + sums .reads
+bytesBy sums = framesOf (sums .halves) * 41 + sums .«read_bytes»
 
 -- "The answer carries bytes written, frames, and the number of clock calls that the records asked for", and the records
-abbrev pub doneAs : ℕ → Sums → Played
+abbrev pub doneAs : ℕ → Sums → LogAnswer
 doneAs written sums = Done written (framesOf (sums .halves)) (sums .calls) (sums .records)
 
-abbrev pub doneBy : Sums → Played
+abbrev pub doneBy : Sums → LogAnswer
 doneBy sums = doneAs (bytesBy sums) sums
 
 -- 5: "a wrong record", or what is said of good ones
-abbrev pub orWrong : Mark → Played → Played
+abbrev pub orWrong : Mark → LogAnswer → LogAnswer
 orWrong Clear a = a
 orWrong (At place) a = WrongRecord place
 
 -- "3 to 6 are tried in that order": 3 to 5 of them, of a log whose output is `written` bytes; 3: "log longer than 65,536 bytes"
-unfoldable pub scannedAs : ℕ → List ℕ → Played
+unfoldable pub scannedAs : ℕ → List ℕ → LogAnswer
 scannedAs written s =
     pick (ltb 65536 (length s)) TooLong
     (pick (badStart s) BadStart
     (orWrong (wrongIn (recordsFrom s 2)) (doneAs written (summed (listed s)))))
 
 -- with the bytes counted
-abbrev pub scannedOf : List ℕ → Played
+abbrev pub scannedOf : List ℕ → LogAnswer
 scannedOf s = scannedAs (bytesBy (summed (listed s))) s
 
 -- 6: "output shorter than needed"
-unfoldable pub withinRoom : ℕ → Played → Played
+unfoldable pub withinRoom : ℕ → LogAnswer → LogAnswer
 withinRoom room (Done written frames clocks records) = pick (ltb room written) (TooShort written) (Done written frames clocks records)
 withinRoom room TooLong = TooLong
 withinRoom room BadStart = BadStart
@@ -83,7 +83,7 @@ withinRoom room (WrongRecord place) = WrongRecord place
 withinRoom room (TooShort needed) = TooShort needed
 
 -- the output after it: the bytes at its front, and "Bytes past those written stay"; with a refusal all of them stay
-abbrev pub outAfter : Played → List ℕ → List ℕ → List ℕ
+abbrev pub outAfter : LogAnswer → List ℕ → List ℕ → List ℕ
 outAfter (Done written frames clocks records) bytes out = bytes ++ drop (length bytes) out
 outAfter TooLong bytes out = out
 outAfter BadStart bytes out = out
@@ -91,7 +91,7 @@ outAfter (WrongRecord place) bytes out = out
 outAfter (TooShort needed) bytes out = out
 
 -- lent numbers after it: frames, clock calls and records at the front where three fit; with a refusal all of them stay
-unfoldable pub countsAfter : Played → List ℕ → List ℕ
+unfoldable pub countsAfter : LogAnswer → List ℕ → List ℕ
 countsAfter (Done written frames clocks records) counts = pick (leb 3 (length counts)) (sets counts 0 (frames ∷ clocks ∷ records ∷ [])) counts
 countsAfter TooLong counts = counts
 countsAfter BadStart counts = counts
@@ -101,4 +101,4 @@ countsAfter (TooShort needed) counts = counts
 -- sums of which the bytes stay in 48 bits
 pub record Small (sums : Sums) : Type 0 where
   pub halves : sums .halves < 2 ^ 40
-  pub reads : sums .reads < 2 ^ 40
+  pub «read_bytes» : sums .«read_bytes» < 2 ^ 40

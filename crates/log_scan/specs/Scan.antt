@@ -9,7 +9,7 @@ use Rattle.log_scan.specs.declared.scan.Mark.the-variants.{Clear, At}
 use Rattle.log_scan.specs.declared.scan.Sums.{Sums}
 use Rattle.log_scan.specs.declared.scan.Found.{Found}
 use Rattle.log_records.specs.Records.{Parsed, done, short, item, unrolled}
-use Rattle.log_scan.specs.Sums.{asks, halvesOf, readsOf, sumOf}
+use Rattle.log_scan.specs.Sums.{asks, halvesOf, readBytesOf, sumOf}
 
 -- the first of two marks that is a place
 abbrev pub orMark : Mark → Mark → Mark
@@ -32,7 +32,7 @@ wrongIn (item p r rest) = orMark (wrongMark p r) (wrongIn rest)
 
 -- the sums over a row of records
 abbrev pub summed : List Record → Sums
-summed l = record { records = length l; calls = sumOf asks l; halves = sumOf halvesOf l; reads = sumOf readsOf l }
+summed l = record { records = length l; calls = sumOf asks l; halves = sumOf halvesOf l; «read_bytes» = sumOf readBytesOf l }
 
 -- what a row of records has
 abbrev pub foundAll : Parsed → Found
@@ -40,14 +40,14 @@ foundAll t = record { wrong = wrongIn t; sums = summed (unrolled t) }
 
 -- what one record has
 abbrev pub oneFound : Mark → ℕ → ℕ → ℕ → Found
-oneFound wrong calls halves reads = record { wrong = wrong; sums = record { records = 1; calls = calls; halves = halves; reads = reads } }
+oneFound wrong calls halves bytes = record { wrong = wrong; sums = record { records = 1; calls = calls; halves = halves; «read_bytes» = bytes } }
 
 abbrev pub foundIn : ℕ → Record → Found
-foundIn place r = oneFound (wrongMark place r) (asks r) (halvesOf r) (readsOf r)
+foundIn place r = oneFound (wrongMark place r) (asks r) (halvesOf r) (readBytesOf r)
 
 -- what no records have
 abbrev pub nothing : Mark → Found
-nothing wrong = record { wrong = wrong; sums = record { records = 0; calls = 0; halves = 0; reads = 0 } }
+nothing wrong = record { wrong = wrong; sums = record { records = 0; calls = 0; halves = 0; «read_bytes» = 0 } }
 
 -- one row after another
 abbrev pub added : Sums → Sums → Sums
@@ -56,7 +56,7 @@ added a b =
       records = a .records + b .records;
       calls = a .calls + b .calls;
       halves = a .halves + b .halves;
-      reads = a .reads + b .reads;
+      «read_bytes» = a .«read_bytes» + b .«read_bytes»;
     }
 
 abbrev pub both : Found → Found → Found
@@ -67,4 +67,4 @@ pub record Fits (a b : Found) : Type 0 where
   pub records : a .sums .records + b .sums .records < 2 ^ 64
   pub calls : a .sums .calls + b .sums .calls < 2 ^ 64
   pub halves : a .sums .halves + b .sums .halves < 2 ^ 64
-  pub reads : a .sums .reads + b .sums .reads < 2 ^ 64
+  pub «read_bytes» : a .sums .«read_bytes» + b .sums .«read_bytes» < 2 ^ 64

@@ -22,12 +22,12 @@ halvesOf Pcm = 0
 halvesOf Wrong = 0
 
 -- the bytes that its reads make: "per read 52 and the byte; for kind 04 50 and both bytes"
-abbrev pub readsOf : Record → ℕ
-readsOf (Write addr value) = 0
-readsOf (Read addr) = 2
-readsOf (Clock double divider count) = 0
-readsOf Pcm = 3
-readsOf Wrong = 0
+abbrev pub readBytesOf : Record → ℕ
+readBytesOf (Write addr value) = 0
+readBytesOf (Read addr) = 2
+readBytesOf (Clock double divider count) = 0
+readBytesOf Pcm = 3
+readBytesOf Wrong = 0
 
 -- "the sum over the log's records"
 unfoldable pub sumOf : (Record → ℕ) → List Record → ℕ

@@ -8,7 +8,7 @@ use crate::scan::scan_list;
 use clocks::meter::frames_of;
 
 // What playing a log answers: what was done, or why it was refused.
-pub enum Played {
+pub enum LogAnswer {
     Done {
         written: u64,
         frames: u64,
@@ -36,13 +36,13 @@ fn bad_start(log: &[u8]) -> bool
 }
 
 // What good records are answered: 41 bytes for a frame, and those of reads.
-fn counted(sums: Sums) -> Played
+fn counted(sums: Sums) -> LogAnswer
     requires { ⌜ Small sums ⌝ }
     ensures { λ r. ⌜ r ≡ doneBy sums ⌝ }
 {
     let frames = frames_of(sums.halves);
-    Played::Done {
-        written: frames * 41 + sums.reads,
+    LogAnswer::Done {
+        written: frames * 41 + sums.read_bytes,
         frames,
         clocks: sums.calls,
         records: sums.records,
@@ -50,115 +50,115 @@ fn counted(sums: Sums) -> Played
 }
 
 // What a log is answered where there is room enough: refusals 3, 4 and 5 in that order, or what playing it makes.
-pub fn scan(log: &[u8]) -> Played
+pub fn scan(log: &[u8]) -> LogAnswer
     ensures { λ r. ⌜ r ≡ scannedOf (now (log .entry)) ⌝ }
 {
     let long = 65536 < log.len();
     let bad = bad_start(log);
     if long {
-        return Played::TooLong;
+        return LogAnswer::TooLong;
     }
     if bad {
-        return Played::BadStart;
+        return LogAnswer::BadStart;
     }
     let found = scan_list(log);
     let wrong = found.wrong;
     match wrong {
         Mark::Clear => counted(found.sums),
-        Mark::At { place } => Played::WrongRecord {
+        Mark::At { place } => LogAnswer::WrongRecord {
             place: place as u64,
         },
     }
 }
 
 // The same in an output of so many bytes: refusal 6 comes last.
-pub fn within(answer: Played, room: usize) -> Played
+pub fn within(answer: LogAnswer, room: usize) -> LogAnswer
     ensures { λ r. ⌜ r ≡ withinRoom room answer ⌝ }
 {
     match answer {
-        Played::Done {
+        LogAnswer::Done {
             written,
             frames,
             clocks,
             records,
         } => {
             if (room as u64) < written {
-                return Played::TooShort { needed: written };
+                return LogAnswer::TooShort { needed: written };
             }
-            Played::Done {
+            LogAnswer::Done {
                 written,
                 frames,
                 clocks,
                 records,
             }
         }
-        Played::TooLong => Played::TooLong,
-        Played::BadStart => Played::BadStart,
-        Played::WrongRecord { place } => Played::WrongRecord { place },
-        Played::TooShort { needed } => Played::TooShort { needed },
+        LogAnswer::TooLong => LogAnswer::TooLong,
+        LogAnswer::BadStart => LogAnswer::BadStart,
+        LogAnswer::WrongRecord { place } => LogAnswer::WrongRecord { place },
+        LogAnswer::TooShort { needed } => LogAnswer::TooShort { needed },
     }
 }
 
 // Whether a log was played, and not refused.
-pub fn is_done(answer: Played) -> bool
+pub fn is_done(answer: LogAnswer) -> bool
     ensures { λ r. ⌜ r ≡ isDone answer ⌝ }
 {
     match answer {
-        Played::Done {
+        LogAnswer::Done {
             written: _,
             frames: _,
             clocks: _,
             records: _,
         } => true,
-        Played::TooLong => false,
-        Played::BadStart => false,
-        Played::WrongRecord { place: _ } => false,
-        Played::TooShort { needed: _ } => false,
+        LogAnswer::TooLong => false,
+        LogAnswer::BadStart => false,
+        LogAnswer::WrongRecord { place: _ } => false,
+        LogAnswer::TooShort { needed: _ } => false,
     }
 }
 
 // The refusal's number in the table, 0 for none.
-pub fn refusal(answer: Played) -> u64
+pub fn refusal(answer: LogAnswer) -> u64
     ensures { λ r. ⌜ r ≡ refusalOf answer ⌝ }
 {
     match answer {
-        Played::Done {
+        LogAnswer::Done {
             written: _,
             frames: _,
             clocks: _,
             records: _,
         } => 0,
-        Played::TooLong => 3,
-        Played::BadStart => 4,
-        Played::WrongRecord { place: _ } => 5,
-        Played::TooShort { needed: _ } => 6,
+        LogAnswer::TooLong => 3,
+        LogAnswer::BadStart => 4,
+        LogAnswer::WrongRecord { place: _ } => 5,
+        LogAnswer::TooShort { needed: _ } => 6,
     }
 }
 
 // Bytes written, or the number that a refusal returns.
-pub fn returned(answer: Played) -> u64
+pub fn returned(answer: LogAnswer) -> u64
     ensures { λ r. ⌜ r ≡ returnedOf answer ⌝ }
 {
     match answer {
-        Played::Done {
+        LogAnswer::Done {
             written,
             frames: _,
             clocks: _,
             records: _,
         } => written,
-        Played::TooLong => 0,
-        Played::BadStart => 0,
-        Played::WrongRecord { place } => place,
-        Played::TooShort { needed } => needed,
+        LogAnswer::TooLong => 0,
+        LogAnswer::BadStart => 0,
+        LogAnswer::WrongRecord { place } => place,
+        LogAnswer::TooShort { needed } => needed,
     }
 }
 
 // Frames, clock calls and records at the front of a lent slice that has room for them; a refusal puts nothing.
-pub fn put_counts(answer: Played, counts: &mut [u64])
+pub fn put_counts(answer: LogAnswer, counts: &mut [u64])
     ensures { λ _. ⌜ now (counts .exit) ≡ countsAfter answer (now (counts .entry)) ⌝ }
 {
     match answer {
-        Played::Done {
+        LogAnswer::Done {
             written: _,
             frames,
             clocks,
@@ -170,9 +170,9 @@ pub fn put_counts(answer: Played, counts: &mut [u64])
                 counts[2] = records;
             }
         }
-        Played::TooLong => {}
-        Played::BadStart => {}
-        Played::WrongRecord { place: _ } => {}
-        Played::TooShort { needed: _ } => {}
+        LogAnswer::TooLong => {}
+        LogAnswer::BadStart => {}
+        LogAnswer::WrongRecord { place: _ } => {}
+        LogAnswer::TooShort { needed: _ } => {}
     }
 }

@@ -26,7 +26,7 @@ pub struct Sums {
     pub records: u64,
     pub calls: u64,
     pub halves: u64,
-    pub reads: u64,
+    pub read_bytes: u64,
 }
 
 // The place of the first wrong record, and the sums.
@@ -60,14 +60,14 @@ fn join(a: Found, b: Found) -> Found
             records: sums.records + more.records,
             calls: sums.calls + more.calls,
             halves: sums.halves + more.halves,
-            reads: sums.reads + more.reads,
+            read_bytes: sums.read_bytes + more.read_bytes,
         },
     }
 }
 
 // What one record has.
-fn one(wrong: Mark, calls: u64, halves: u64, reads: u64) -> Found
-    ensures { λ r. ⌜ r ≡ oneFound wrong calls halves reads ⌝ }
+fn one_record(wrong: Mark, calls: u64, halves: u64, bytes: u64) -> Found
+    ensures { λ r. ⌜ r ≡ oneFound wrong calls halves bytes ⌝ }
 {
     Found {
         wrong,
@@ -75,7 +75,7 @@ fn one(wrong: Mark, calls: u64, halves: u64, reads: u64) -> Found
             records: 1,
             calls,
             halves,
-            reads,
+            read_bytes: bytes,
         },
     }
 }
@@ -90,7 +90,7 @@ fn none(wrong: Mark) -> Found
             records: 0,
             calls: 0,
             halves: 0,
-            reads: 0,
+            read_bytes: 0,
         },
     }
 }
@@ -100,7 +100,7 @@ fn one_clock(double: bool, count: u16) -> Found
     ensures { λ r. ⌜ r ≡ oneFound Clear count (count * halfClocksOf double) 0 ⌝ }
 {
     let calls = count as u64;
-    one(Mark::Clear, calls, calls * (half_clocks(double) as u64), 0)
+    one_record(Mark::Clear, calls, calls * (half_clocks(double) as u64), 0)
 }
 
 // What a record's body has, its first length byte at the place.
@@ -108,15 +108,15 @@ fn scan_record(body: &[u8], place: usize) -> Found
     ensures { λ r. ⌜ r ≡ foundIn place (judgeOf (now (body .entry))) ⌝ }
 {
     match judge(body) {
-        Record::Write { addr: _, value: _ } => one(Mark::Clear, 0, 0, 0),
-        Record::Read { addr: _ } => one(Mark::Clear, 0, 0, 2),
+        Record::Write { addr: _, value: _ } => one_record(Mark::Clear, 0, 0, 0),
+        Record::Read { addr: _ } => one_record(Mark::Clear, 0, 0, 2),
         Record::Clock {
             double,
             divider: _,
             count,
         } => one_clock(double, count),
-        Record::Pcm => one(Mark::Clear, 0, 0, 3),
-        Record::Wrong => one(Mark::At { place }, 0, 0, 0),
+        Record::Pcm => one_record(Mark::Clear, 0, 0, 3),
+        Record::Wrong => one_record(Mark::At { place }, 0, 0, 0),
     }
 }
 

@@ -10,7 +10,7 @@ use compare::starts_with;
 use compare::untouched;
 use compare::word;
 use log_player::log::play_log;
-use log_scan::answer::Played;
+use log_scan::answer::LogAnswer;
 use log_scan::answer::refusal;
 use log_scan::answer::returned;
 
@@ -118,13 +118,13 @@ fn output_is(kind: u8, want: &[u8], written: usize, out: &[u8]) -> bool {
 }
 
 // The log played in an output of so many bytes.
-fn answer_of(log: &[u8], length: usize, room: usize, out: &mut [u8]) -> Played {
+fn answer_of(log: &[u8], length: usize, room: usize, out: &mut [u8]) -> LogAnswer {
     if length <= log.len() {
         if room <= out.len() {
             return play_log(&log[..length], &mut out[..room]);
         }
     }
-    Played::TooLong
+    LogAnswer::TooLong
 }
 
 // The output's length: exactly what the original wrote, and none for a refusal.

@@ -1,6 +1,5 @@
 -- Each way out is the case of `gatedWritten` that power and offset pick. Assumes nothing.
 use borrow.Author.Needs.{needs}
-use borrow.Author.Tests.{eq-eqb, ne-eqb}
 use Rattle.ground.specs.Pick.{pick}
 use Rattle.apu.specs.Registers.{gatedWritten}
 use Rattle.apu.proofs.Apu.write_gated.Statement.{statement}
@@ -13,7 +12,6 @@ write-gated-spec =
     (tie.spec
     (λ c κs. search needs)
     (λ c. rw (c .write-sound .ensures, c .before .if1 .taken))
-    (λ c. rw (c .before .if1 .left, eq-eqb _ _ (c .if2 .taken)))
     (λ c κs. search needs)
-    (λ c. rw (c .write-sound2 .ensures, c .before .before .before .if1 .left, ne-eqb _ _ (c .before .before .if2 .left), eq-eqb _ _ (c .before .if3 .taken)))
-    (λ c. rw (c .before .before .if1 .left, ne-eqb _ _ (c .before .if2 .left), ne-eqb _ _ (c .if3 .left))))
+    (λ c. rw (c .write-sound2 .ensures, c .before .before .if1 .left, c .before .if2 .taken))
+    (λ c. rw (c .before .if1 .left, c .if2 .left)))

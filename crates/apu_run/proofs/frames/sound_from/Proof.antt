@@ -7,15 +7,15 @@ use lib.Seq.{sets}
 use Rattle.clocks.proofs.Distances.{after-below}
 use Rattle.apu_run.specs.Working.{Take}
 use Rattle.apu_run.specs.Parts.{partsOf}
-use Rattle.apu_run.proofs.Moves.{still-held, moving-held, converters-held}
+use Rattle.apu_run.proofs.Moves.{settings-held, phases-held, converters-held}
 use Rattle.apu_run.proofs.Rans.{behind-ran}
-use Rattle.apu_run.proofs.Running.{Running, running-first, running-on, running-last, whole-ran, due-some, out-long, settings-held, few-clocks}
+use Rattle.apu_run.proofs.Running.{Running, running-first, running-on, running-last, whole-ran, due-some, out-long, frame-settings-held, few-clocks}
 use Rattle.apu_run.proofs.Running.{moved-of, moved-held, framed-of, framed-known, framed-room}
 use Rattle.apu_run.proofs.frames.sound_from.Statement.{statement}
 use Rattle.apu_run.proofs.frames.sound_from.Tie as tie
 
 abbrev Inv-loop : tie.InvT-loop
-Inv-loop ahead count waiting out₀ start still settings ram moving₀ converters₀ units₀ due₀ left₀ at₀ pending₀ out moving converters units due left at pending =
+Inv-loop ahead count waiting out₀ start settings frameSettings ram phases₀ converters₀ units₀ due₀ left₀ at₀ pending₀ out phases converters units due left at pending =
     Running
     (record {
       ahead = ahead;
@@ -23,19 +23,19 @@ Inv-loop ahead count waiting out₀ start still settings ram moving₀ converter
       waiting = waiting;
       out = out₀;
       start = start;
-      still = still;
       settings = settings;
-      moving = moving₀;
+      frameSettings = frameSettings;
+      phases = phases₀;
       converters = converters₀;
     })
-    (record { out = out; moving = moving; converters = converters; units = units; due = due; left = left; at = at; pending = pending })
+    (record { out = out; phases = phases; converters = converters; units = units; due = due; left = left; at = at; pending = pending })
 
 abbrev μ-loop : tie.MeasureT-loop
-μ-loop ahead count waiting out₀ start still settings ram moving₀ converters₀ units₀ due₀ left₀ at₀ pending₀ out moving converters units due left at pending =
+μ-loop ahead count waiting out₀ start settings frameSettings ram phases₀ converters₀ units₀ due₀ left₀ at₀ pending₀ out phases converters units due left at pending =
     left
 
-moving-of-requires : tie.Need-moving-of-requires Inv-loop μ-loop
-moving-of-requires c κs =
+phases-of-requires : tie.Need-phases-of-requires Inv-loop μ-loop
+phases-of-requires c κs =
     let start = c .before .before .before .before .before in
     start .pre .0
 
@@ -48,15 +48,15 @@ loop-holds : tie.Need-loop-holds Inv-loop μ-loop
 loop-holds c =
     let until = c .until in
     let converters-of = c .before .converters-of in
-    let moving-of = c .before .before .moving-of in
-    let settings-of = c .before .before .before .before .before .settings-of in
-    let still-of = c .before .before .before .before .before .before .still-of in
+    let phases-of = c .before .before .phases-of in
+    let frame-settings-of = c .before .before .before .before .before .frame-settings-of in
+    let settings-of = c .before .before .before .before .before .before .settings-of in
     let start = c .before .before .before .before .before .before .before .before in
     let u = start .args .unit in
     let pre = start .pre in
     let room = rw (ap (λ (t : Take). length (t .bytes)) (behind-ran u (start .args .count) (start .args .ahead) (start .args .waiting))) at (pre .1 .1 .1 .1) in
-    rw (moving-of .ensures, converters-of .ensures, settings-of .ensures, still-of .ensures)
-    (running-first (still-held u (pre .0)) refl (moving-held u (pre .0)) (converters-held u (pre .1 .0)) (pre .1 .1 .0) (until .ensures) (pre .1 .1 .1 .0) room)
+    rw (phases-of .ensures, converters-of .ensures, frame-settings-of .ensures, settings-of .ensures)
+    (running-first (settings-held u (pre .0)) refl (phases-held u (pre .0)) (converters-held u (pre .1 .0)) (pre .1 .1 .0) (until .ensures) (pre .1 .1 .1 .0) room)
 
 add-advance : tie.Need-add-advance Inv-loop μ-loop
 add-advance c =
@@ -68,7 +68,7 @@ advance-requires : tie.Need-advance-requires Inv-loop μ-loop
 advance-requires c κs =
     let before-frame = c .before-frame in
     let loop = c .before .loop in
-    (loop .inv .moving, (loop .inv .held, omega (arith, few-clocks (loop .inv) (before-frame .ensures))))
+    (loop .inv .phases, (loop .inv .held, omega (arith, few-clocks (loop .inv) (before-frame .ensures))))
 
 later-requires : tie.Need-later-requires Inv-loop μ-loop
 later-requires c κs =
@@ -95,43 +95,43 @@ returns c =
     let before-frame = c .before .before .before .before .before-frame in
     let loop = c .before .before .before .before .before .loop in
     let converters-of = c .before .before .before .before .before .before .before .converters-of in
-    let moving-of = c .before .before .before .before .before .before .before .before .moving-of in
+    let phases-of = c .before .before .before .before .before .before .before .before .phases-of in
     let back10 = c .before .before .before .before .before .before .before .before .before .before in
-    let still-of = back10 .before .before .still-of in
+    let settings-of = back10 .before .before .settings-of in
     let start = back10 .before .before .before .before in
     let a = start .args in
     let moved = moved-of (loop .inv) (before-frame .ensures) (advance .ensures) in
     let last = running-last moved (if1 .taken) (later .ensures .0) (counter-of .ensures) in
-    let all = whole-ran (loop .inv) (a .unit) (still-of .ensures) (moving-of .ensures) (converters-of .ensures) in
+    let all = whole-ran (loop .inv) (a .unit) (settings-of .ensures) (phases-of .ensures) (converters-of .ensures) in
     (last .0 ∙ ap (λ (t : Take). partsOf t (a .start)) all, last .1 ∙ ap (λ (t : Take). sets (a .out .now) (a .start) (t .bytes)) all)
 
-slice-aggregate-shoot : tie.Need-slice-aggregate-shoot Inv-loop μ-loop
-slice-aggregate-shoot c =
+slice-aggregate-step-frame : tie.Need-slice-aggregate-step-frame Inv-loop μ-loop
+slice-aggregate-step-frame c =
     let loop = c .before .before .before .before .loop in
     sym (loop .inv .held .wave .buffer)
 
-shoot-requires : tie.Need-shoot-requires Inv-loop μ-loop
-shoot-requires c κs =
+step-frame-requires : tie.Need-step-frame-requires Inv-loop μ-loop
+step-frame-requires c κs =
     let advance = c .before .before .advance in
     let before-frame = c .before .before .before .before-frame in
     let loop = c .before .before .before .before .loop in
     let moved = moved-of (loop .inv) (before-frame .ensures) (advance .ensures) in
-    (settings-held (loop .inv), (moved-held moved, loop .inv .held .wave .buffer))
+    (frame-settings-held (loop .inv), (moved-held moved, loop .inv .held .wave .buffer))
 
 put-mix-requires : tie.Need-put-mix-requires Inv-loop μ-loop
 put-mix-requires c κs =
-    let shoot = c .before .shoot in
+    let step-frame = c .before .step-frame in
     let if1 = c .before .before .before .if1 in
     let advance = c .before .before .before .before .advance in
     let before-frame = c .before .before .before .before .before .before-frame in
     let loop = c .before .before .before .before .before .before .loop in
     let moved = moved-of (loop .inv) (before-frame .ensures) (advance .ensures) in
-    let framed = framed-of moved (if1 .left) (shoot .ensures) in
+    let framed = framed-of moved (if1 .left) (step-frame .ensures) in
     (framed-room framed, framed-known framed)
 
 add-at : tie.Need-add-at Inv-loop μ-loop
 add-at c =
-    let shoot = c .before .before .before .before .before .shoot in
+    let step-frame = c .before .before .before .before .before .step-frame in
     let if1 = c .before .before .before .before .before .before .before .if1 in
     let advance = c .before .before .before .before .before .before .before .before .advance in
     let before-frame = c .before .before .before .before .before .before .before .before .before .before-frame in
@@ -139,7 +139,7 @@ add-at c =
     let back10 = c .before .before .before .before .before .before .before .before .before .before in
     let start = back10 .before .before .before .before .before .before .before .before .before in
     let moved = moved-of (loop .inv) (before-frame .ensures) (advance .ensures) in
-    let framed = framed-of moved (if1 .left) (shoot .ensures) in
+    let framed = framed-of moved (if1 .left) (step-frame .ensures) in
     omega (arith, framed-room framed, out-long (loop .inv), start .good)
 
 past-frame-requires : tie.Need-past-frame-requires Inv-loop μ-loop
@@ -166,14 +166,14 @@ loop-again c =
     let until2 = c .until2 in
     let past-frame = c .before .past-frame in
     let put-mix = c .before .before .before .before .before .put-mix in
-    let shoot = c .before .before .before .before .before .before .before .shoot in
+    let step-frame = c .before .before .before .before .before .before .before .step-frame in
     let if1 = c .before .before .before .before .before .before .before .before .before .if1 in
     let advance = c .before .before .before .before .before .before .before .before .before .before .advance in
     let back10 = c .before .before .before .before .before .before .before .before .before .before in
     let before-frame = back10 .before .before-frame in
     let loop = back10 .before .before .loop in
     let moved = moved-of (loop .inv) (before-frame .ensures) (advance .ensures) in
-    running-on (framed-of moved (if1 .left) (shoot .ensures)) (put-mix .ensures) (past-frame .ensures) (until2 .ensures)
+    running-on (framed-of moved (if1 .left) (step-frame .ensures)) (put-mix .ensures) (past-frame .ensures) (until2 .ensures)
 
 pub sound-from-spec : {M : Type 1} → statement M
 sound-from-spec =
@@ -183,7 +183,7 @@ sound-from-spec =
     μ-loop
     (λ c κs. search needs)
     (λ c κs. search needs)
-    moving-of-requires
+    phases-of-requires
     (λ c κs. search needs)
     until-requires
     loop-holds
@@ -194,8 +194,8 @@ sound-from-spec =
     counter-of-requires
     same-length
     returns
-    slice-aggregate-shoot
-    shoot-requires
+    slice-aggregate-step-frame
+    step-frame-requires
     put-mix-requires
     add-at
     past-frame-requires

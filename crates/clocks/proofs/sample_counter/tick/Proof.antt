@@ -2,11 +2,11 @@
 -- Assumes nothing.
 use mathlib.Core.Path.{_≡_, refl}
 use lib.Ieee.{binary64, ofBits, round}
-use Rattle.clocks.specs.Counter.{one, everyAt, taken, tickBy}
+use Rattle.clocks.specs.Counter.{f64One, everyAt, taken, tickBy}
 use Rattle.clocks.proofs.sample_counter.tick.Statement.{statement}
 use Rattle.clocks.proofs.sample_counter.tick.Tie as tie
 
-one-is : ofBits binary64 0x3ff0_0000_0000_0000 ≡ one
+one-is : ofBits binary64 0x3ff0_0000_0000_0000 ≡ f64One
 unfolding ofBits
 one-is = refl
 

@@ -5,7 +5,7 @@ use mathlib.Core.Path.{sym, _∙_}
 use native.Mathlib.Nat.{zero-add}
 use lib.ListN.{length}
 use denote.Ref.{now}
-use Rattle.log_player.specs.Logs.{outputOf}
+use Rattle.log_player.specs.Logs.{bytesOfLog}
 use Rattle.log_player.proofs.Walking.{start-held, start-floats}
 use Rattle.log_player.proofs.Answering.{answer-is, long, room, put-out, kept-out}
 use Rattle.log_player.proofs.log.play_log.Statement.{statement}
@@ -48,7 +48,7 @@ play-list-requires c κs =
     let args = c .before .before .before .before .before .before .before .before .before .args in
     let done = sym (is-done .ensures) ∙ if1 .taken in
     let fits = room (now (args .log)) (now (args .out)) _ _ (scan .ensures) (within .ensures) done in
-    rw (start .ensures) (start-held _, (start-floats _, rw (zero-add (length (outputOf (now (args .log))))) fits))
+    rw (start .ensures) (start-held _, (start-floats _, rw (zero-add (length (bytesOfLog (now (args .log))))) fits))
 
 same-length : tie.Need-same-length
 same-length c =

@@ -2,12 +2,12 @@
 use borrow.Author.Needs.{needs}
 use borrow.Author.Tests.{eq-eqb, ne-eqb}
 use Rattle.ground.specs.Pick.{pick}
-use Rattle.log_player.specs.Playing.{started}
+use Rattle.log_player.specs.Playing.{unitOfStart}
 use Rattle.log_player.proofs.play.start.Statement.{statement}
 use Rattle.log_player.proofs.play.start.Tie as tie
 
 pub start-spec : {M : Type 1} → statement M
-unfolding pick started
+unfolding pick unitOfStart
 start-spec =
     tie.close
     (tie.spec

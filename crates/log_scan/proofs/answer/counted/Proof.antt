@@ -11,5 +11,5 @@ counted-spec =
     (tie.spec
     (λ c κs. search needs)
     (λ c. let h = c .before .pre .halves in let l = frames-le (c .before .args .sums .halves) in rw (c .frames-of .ensures) (omega arith))
-    (λ c. let h = c .before .before .pre .halves in let k = c .before .before .pre .reads in let l = frames-le (c .before .before .args .sums .halves) in rw (c .before .frames-of .ensures) (omega arith))
+    (λ c. let h = c .before .before .pre .halves in let k = c .before .before .pre .«read_bytes» in let l = frames-le (c .before .before .args .sums .halves) in rw (c .before .frames-of .ensures) (omega arith))
     (λ c. rw (c .before .frames-of .ensures)))

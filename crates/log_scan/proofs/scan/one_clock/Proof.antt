@@ -17,4 +17,4 @@ one-clock-spec =
     (λ c. search needs)
     (λ c. let m = once-or-twice (c .before .args .count) (c .half-clocks .result) (c .half-clocks .ensures .1) (omega (arith, c .before .fits .count)) in omega (arith, m))
     (λ c κs. search needs)
-    (λ c. rw (c .one .ensures, c .before .half-clocks .ensures .0)))
+    (λ c. rw (c .one-record .ensures, c .before .half-clocks .ensures .0)))

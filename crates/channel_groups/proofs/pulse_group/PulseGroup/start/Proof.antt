@@ -1,11 +1,11 @@
 -- The parts are the definition's, by what the calls ensure. Assumes nothing.
 use borrow.Author.Needs.{needs}
-use Rattle.channel_groups.specs.PulseGroups.{started}
+use Rattle.channel_groups.specs.PulseGroups.{triggered}
 use Rattle.channel_groups.proofs.pulse_group.PulseGroup.start.Statement.{statement}
 use Rattle.channel_groups.proofs.pulse_group.PulseGroup.start.Tie as tie
 
 pub start-spec : {M : Type 1} → statement M
-unfolding started
+unfolding triggered
 start-spec =
     tie.close
     (tie.spec

@@ -9,4 +9,4 @@ output-spec =
     (tie.spec
     (λ c κs. search needs)
     (λ c κs. search needs)
-    (λ c. rw (c .output-at .ensures, c .before .hiss .ensures)))
+    (λ c. rw (c .output-at .ensures, c .before .phase .ensures)))

@@ -1,5 +1,5 @@
 -- A channel with its own position is itself. Assumes nothing.
-use Rattle.channel_pulse.proofs.Tones.{own-held}
+use Rattle.channel_pulse.proofs.Phases.{own-held}
 use Rattle.channel_pulse.proofs.pulse_channel.PulseChannel.output.Statement.{statement}
 use Rattle.channel_pulse.proofs.pulse_channel.PulseChannel.output.Tie as tie
 
@@ -8,5 +8,5 @@ output-spec =
     tie.close
     (tie.spec
     (λ c κs. c .pre)
-    (λ c κs. rw (c .tone .ensures) (own-held (c .before .args .self) (c .before .pre)))
-    (λ c. rw (c .output-at .ensures, c .before .tone .ensures)))
+    (λ c κs. rw (c .phase .ensures) (own-held (c .before .args .self) (c .before .pre)))
+    (λ c. rw (c .output-at .ensures, c .before .phase .ensures)))

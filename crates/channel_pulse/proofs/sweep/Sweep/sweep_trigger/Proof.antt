@@ -3,7 +3,7 @@ use borrow.Author.Needs.{needs}
 use borrow.Author.Tests.{eq-eqb, ne-eqb}
 use Rattle.ground.specs.Pick.{pick}
 use Rattle.channel_pulse.specs.Sweep.{triggered}
-use Rattle.channel_pulse.proofs.Ranges.{started-held}
+use Rattle.channel_pulse.proofs.Ranges.{sweep-started-held}
 use Rattle.channel_pulse.proofs.sweep.Sweep.sweep_trigger.Statement.{statement}
 use Rattle.channel_pulse.proofs.sweep.Sweep.sweep_trigger.Tie as tie
 
@@ -11,7 +11,7 @@ start-requires : tie.Need-start-requires
 start-requires c κs = search needs
 
 check-requires : tie.Need-check-requires
-check-requires c κs = rw (c .before .before .start .ensures) (started-held _ _ (c .before .before .before .pre .0) (c .before .before .before .pre .1))
+check-requires c κs = rw (c .before .before .start .ensures) (sweep-started-held _ _ (c .before .before .before .pre .0) (c .before .before .before .pre .1))
 
 returns : tie.Need-returns
 unfolding pick triggered

@@ -11,5 +11,5 @@ clock-spec =
     tie.close
     (tie.spec
     (λ c κs. search needs)
-    (λ c κs. rw (c .half-clock .ensures) (wave-halved-held _ (c .before .pre)))
-    (λ c. rw (c .half-clock2 .ensures, c .before .half-clock .ensures)))
+    (λ c κs. rw (c .clock-timer .ensures) (wave-halved-held _ (c .before .pre)))
+    (λ c. rw (c .clock-timer2 .ensures, c .before .clock-timer .ensures)))
