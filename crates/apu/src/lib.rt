@@ -2,6 +2,7 @@
 pub mod registers; // registers.rt: reads, writes and power
 
 ghost use mathlib.Core.Path.{_≡_};
+ghost use Rattle.apu.specs.Held.{Held, FloatsHeld};
 ghost use Rattle.apu.specs.Start.{fresh, skipped};
 use channel_groups::noise_group::NoiseGroup;
 use channel_groups::pulse_group::PulseGroup;
@@ -32,6 +33,7 @@ impl Apu {
     // A fresh unit: everything 0 or off.
     pub fn new(dmg: bool) -> Apu
         ensures { λ r. ⌜ r ≡ fresh dmg ⌝ }
+        ensures { λ r. ⌜ Held r × FloatsHeld r ⌝ }
     {
         let pulse1 = PulseGroup::new();
         let pulse2 = PulseGroup::new();
@@ -56,6 +58,7 @@ impl Apu {
     // The unit as the boot program leaves it. Pulse 1 is on though its DAC flag is off.
     pub fn new_skip_boot_rom(dmg: bool) -> Apu
         ensures { λ r. ⌜ r ≡ skipped dmg ⌝ }
+        ensures { λ r. ⌜ Held r × FloatsHeld r ⌝ }
     {
         let mut next = Apu::new(dmg);
         let mut pulse1 = next.pulse1;

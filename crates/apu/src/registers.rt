@@ -3,7 +3,7 @@ ghost use mathlib.Core.Path.{_≡_};
 ghost use Prim.Native.Nat.{_-_};
 ghost use Rattle.ground.specs.Num.{isSound};
 ghost use Rattle.ground.specs.Pick.{pick};
-ghost use Rattle.apu.specs.Held.{Held};
+ghost use Rattle.apu.specs.Held.{Held, FloatsHeld};
 ghost use Rattle.clocks.specs.Position.{nextEven};
 ghost use Rattle.apu.specs.Answers.{refusalOfRead, returnedOfRead, refusalOfWrite, returnedOfWrite};
 ghost use Rattle.apu.specs.Registers.{statusByte, byteAt, readOf, pcm12Of, pcm34Of, soundWritten, gatedWritten, ramWritten, zeroed, silenced, poweredOff, restarted, refilled, poweredOn, powerWritten, writtenAt, writeOf};
@@ -304,6 +304,7 @@ impl Apu {
     pub fn write_register(self, addr: u16, value: u8) -> Written
         requires { ⌜ Held self ⌝ }
         ensures { λ r. ⌜ (r ≡ writeOf self addr value) × (refusalOfWrite (r .answer) ≡ pick (isSound addr) 0 1) × (returnedOfWrite (r .answer) ≡ 0) ⌝ }
+        ensures { λ r. ⌜ Held (r .apu) × (FloatsHeld self → FloatsHeld (r .apu)) ⌝ }
     {
         if (0xFF10 <= addr) & (addr <= 0xFF3F) {
             let next = self.write_at(addr - 0xFF10, value);

@@ -1,18 +1,24 @@
 -- Demand 3 over the real unit: every use, seen through the unit's clocks, is one of the four kinds, so the law of the clocks applies to any row of uses. Assumes nothing.
-use mathlib.Core.Path.{_≡_, refl, sym, _∙_}
-use mathlib.Core.Bool.{Bool, true, false}
-use mathlib.Core.List.{List}
-use Prim.Native.Nat.{ℕ, _+_, _-_}
+use mathlib.Core.Path.{_≡_, refl, sym, ap, ap₂, _∙_}
+use mathlib.Core.Bool.{Bool, true, false, _&&_}
+use mathlib.Core.List.{List, _∷_}
+use Prim.Native.Nat.{ℕ, zero, suc, _+_, _-_, _*_, _/_, _^_}
+use native.Mathlib.Omega.{arith}
 use lib.Dec.{ltb}
 use lib.Ieee.{Float, ofBits}
-use Rattle.ground.proofs.Cases.{pick-holds}
+use Rattle.ground.specs.Pick.{pick}
+use Rattle.ground.proofs.Cases.{pick-holds, pick-false}
 use Rattle.clocks.specs.Counter.{everyAt, tickBy}
-use Rattle.clocks.specs.Calls.{atSpeed, halfClocksOf, Clocks, clocked, call, fresh, K, Conserved}
-use Rattle.clocks.proofs.Seen.{steps, kinds, seen-conserved}
-use Rattle.frame.specs.Buffers.{Buffers}
+use Rattle.clocks.specs.Calls.{Call, atSpeed, halfClocksOf, Clocks, clocked, call, run, fresh, times, K}
+use Rattle.clocks.specs.Rows.{steps, kinds}
+use Rattle.clocks.proofs.Seen.{seen, seen-conserved}
+use Rattle.clocks.proofs.Conserved.{K-is, frames-by-formula}
+use Rattle.frame.specs.Buffers.{Buffers, roomFor}
 use Rattle.apu.specs.Start as start
 use Rattle.apu.specs.Registers.{readOf, writeOf}
-use Rattle.apu_clock.specs.Clocking.{After, answered, pushed, passed, frameOf, frameDue, worked, clockOf}
+use Rattle.apu_clock.specs.Clocking.{After, answered, pushed, passed, frameOf, frameDue, worked, clockOf, makesFrame}
+use Rattle.apu_clock.specs.Answers.{refusalOf}
+use Rattle.apu_clock.specs.Demand3.{startOf, Demand3}
 use Rattle.apu_clock.specs.Uses.{Use, read, write, pcm12, pcm34, clock, State, counted, step, readKind, writeKind, clockKind, kind, see}
 use Rattle.apu.specs.declared.Apu.{Apu}
 use Rattle.apu.specs.declared.registers.Read.{Read}
@@ -21,9 +27,11 @@ use Rattle.apu.specs.declared.registers.Read.the-variants as reads
 use Rattle.apu.specs.declared.registers.Write.{Write}
 use Rattle.apu.specs.declared.registers.Write.the-variants.{Done}
 use Rattle.apu.specs.declared.registers.Write.the-variants as writes
-use Rattle.apu_clock.specs.declared.clock.Answer.the-variants.{Nothing, Frame}
+use Rattle.apu_clock.specs.declared.clock.Answer.{Answer}
+use Rattle.apu_clock.specs.declared.clock.Answer.the-variants.{Nothing, Frame, NoRoom}
 use Rattle.apu.proofs.Untouched.{write-untouched}
 use Rattle.apu_clock.proofs.Untouched.{finish-untouched}
+use Rattle.apu_clock.proofs.Calling.{told}
 
 -- N
 abbrev pub n : Float
@@ -101,19 +109,46 @@ law pcm12 s = refl
 law pcm34 s = refl
 law (clock d v place b) s = clock-law (s .apu) (s .frames) d v place b
 
--- demand 3, from a unit of fresh clocks
-pub conserved : (cs : List Use) (s : State) → see s ≡ fresh → Conserved 48 K (kinds see kind step cs s) (see (steps see kind step cs s))
-conserved = seen-conserved see kind step law
+-- both constructors make units of fresh clocks
+start-clocks : (skip dmg : Bool) → see (startOf skip dmg) ≡ fresh
+unfolding pick start.skipped start.fresh ofBits
+start-clocks true dmg = refl
+start-clocks false dmg = refl
 
--- both constructors make such units
-pub new-conserved : (dmg : Bool) (cs : List Use) → let s : State = record { apu = start.fresh dmg; frames = 0 } in Conserved 48 K (kinds see kind step cs s) (see (steps see kind step cs s))
-new-conserved dmg cs = conserved cs _ (fresh-clocks dmg)
-  where
-    fresh-clocks : (dmg : Bool) → see (record { apu = start.fresh dmg; frames = 0 }) ≡ fresh
-    fresh-clocks dmg = unfold start.fresh ofBits in refl
+-- demand 3
+pub demand-3 : Demand3
+demand-3 =
+    record {
+      number = K-is;
+      conserved = λ skip dmg uses. seen-conserved see kind step law uses (startOf skip dmg) (start-clocks skip dmg);
+      others = λ u s e. law u s ∙ ap (λ (k : Call). call n k (see s)) e;
+      refusals = λ u s e. law u s ∙ ap (λ (k : Call). call n k (see s)) e;
+    }
 
-pub skipped-conserved : (dmg : Bool) (cs : List Use) → let s : State = record { apu = start.skipped dmg; frames = 0 } in Conserved 48 K (kinds see kind step cs s) (see (steps see kind step cs s))
-skipped-conserved dmg cs = conserved cs _ (skipped-clocks dmg)
+-- ---- a row of clock calls, each with room for a frame: its frames by the formula
+room-kind : (a : Apu) (d : Bool) (v place : ℕ) (b : Buffers) → roomFor place b ≡ true → clockKind d (clockOf a d v place b .clocked .answer) ≡ atSpeed d
+room-kind a d v place b e = accepted (clockOf a d v place b .clocked .answer) (told a d v place b _ refl ∙ pick-false _ 2 0 (rw e (no-way (makesFrame a d))))
   where
-    skipped-clocks : (dmg : Bool) → see (record { apu = start.skipped dmg; frames = 0 }) ≡ fresh
-    skipped-clocks dmg = unfold start.skipped start.fresh ofBits in refl
+    no-way : (m : Bool) → (m && false) ≡ false
+    no-way true = refl
+    no-way false = refl
+
+    accepted : (x : Answer) → refusalOf x ≡ 0 → clockKind d x ≡ atSpeed d
+    accepted Nothing e = refl
+    accepted Frame e = refl
+    accepted NoRoom e = absurd (omega (arith, e))
+
+room-kinds : (d : Bool) (v place : ℕ) (b : Buffers) → roomFor place b ≡ true → (k : ℕ) (s : State)
+    → kinds kind step (times k (clock d v place b)) s ≡ times k (atSpeed d)
+unfolding kinds times kind
+room-kinds d v place b e zero s = refl
+room-kinds d v place b e (suc k) s =
+    ap₂ (λ (c : Call) (cs : List Call). c ∷ cs) (room-kind (s .apu) d v place b e) (room-kinds d v place b e k (step (clock d v place b) s))
+
+pub frames-of-calls : (skip dmg : Bool) (v place : ℕ) (b : Buffers) → roomFor place b ≡ true → (k : ℕ)
+    → steps step (times k (clock false v place b)) (startOf skip dmg) .frames ≡ k * 2 ^ 48 / K
+frames-of-calls skip dmg v place b e k =
+    let s = startOf skip dmg in
+    ap (λ (m : Clocks). m .frames) (seen see kind step n law (times k (clock false v place b)) s)
+    ∙ ap₂ (λ (cs : List Call) (m : Clocks). run n cs m .frames) (room-kinds false v place b e k s) (start-clocks skip dmg)
+    ∙ frames-by-formula k

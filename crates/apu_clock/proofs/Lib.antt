@@ -3,4 +3,6 @@ pub mod Ranges  -- the ranges of numbers
 pub mod Calling  -- the ways of a clock call
 pub mod Untouched  -- what no channel or sequencer clock touches
 pub mod Floats  -- the ranges of floats
+pub mod Given  -- what is handed back is in its ranges
 pub mod Demand3  -- frames and remainder by the formula, over any calls
+pub mod Rows  -- the ranges, over any calls

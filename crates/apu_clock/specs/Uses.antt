@@ -1,6 +1,7 @@
 -- Any use of the unit: the calls that there are, what each makes of the unit and its frames, and how its clocks see it. Demand 3 speaks of these. Assumes nothing.
 use mathlib.Core.Bool.{Bool}
-use Prim.Native.Nat.{ℕ, _+_}
+use mathlib.Core.List.{List, [], _∷_}
+use Prim.Native.Nat.{ℕ, _+_, _≤_}
 use Rattle.clocks.specs.Calls.{Call, atSpeed, other, refused, Clocks}
 use Rattle.frame.specs.Buffers.{Buffers}
 use Rattle.apu.specs.Registers.{readOf, writeOf}
@@ -21,6 +22,20 @@ pub data Use : Type 0 where
   write : ℕ → ℕ → Use
   pcm12 pcm34 : Use
   clock : Bool → ℕ → ℕ → Buffers → Use
+
+-- what a use writes
+abbrev pub valueOf : Use → ℕ
+valueOf (read addr) = 0
+valueOf (write addr value) = value
+valueOf pcm12 = 0
+valueOf pcm34 = 0
+valueOf (clock double divider place b) = 0
+
+-- a row in which every value written is a byte
+infixr 4 _then_
+pub data Bytes : List Use → Type 0 where
+  end : Bytes []
+  _then_ : {u : Use} {us : List Use} → valueOf u ≤ 255 → Bytes us → Bytes (u ∷ us)
 
 -- the unit, and the frames that it has made
 pub record State : Type 0 where

@@ -3,7 +3,7 @@ ghost use mathlib.Core.Path.{_≡_};
 ghost use Prim.Native.Nat.{_≤_};
 ghost use Rattle.ground.specs.Pick.{pick};
 ghost use Rattle.frame.specs.Buffers.{five};
-ghost use Rattle.apu.specs.Held.{Held};
+ghost use Rattle.apu.specs.Held.{Held, FloatsHeld};
 ghost use Rattle.apu_clock.specs.Clocking.{pushed, passed, frameOf, after, worked, clockOf, noRoom};
 ghost use Rattle.apu_clock.specs.Answers.{refusalOf, returnedOf};
 use crate::sequencer::finish;
@@ -153,6 +153,7 @@ pub fn clock(
         × (refusalOf (r .answer)
         ≡ pick (noRoom unit double place (five (now (pulse1 .entry)) (now (pulse2 .entry)) (now (wave .entry)) (now (noise .entry)) (now (all .entry)))) 2 0)
         × (returnedOf (r .answer) ≡ 0) ⌝ }
+    ensures { λ r. ⌜ Held (r .apu) × (FloatsHeld unit → FloatsHeld (r .apu)) ⌝ }
 {
     let half = unit.clocks_counter + half_clocks(double);
     if half < 2 {

@@ -4,6 +4,7 @@ use mathlib.Core.Path.{_≡_, ap, ap₂, _∙_}
 use mathlib.Core.List.{List}
 use lib.ListN.{length}
 use lib.Seq.{sets, length-sets}
+use Rattle.apu.specs.Held.{Held, FloatsHeld}
 use Rattle.apu.specs.declared.Apu.{Apu}
 use Rattle.apu_run.specs.Working.{ranOf}
 use Rattle.apu_run.specs.Phases.{PhasesHeld, putBack}
@@ -32,6 +33,11 @@ module _ {a : Apu} {owed : ℕ} {out₀ : List ℕ} {at : ℕ} {r : Parts} {out 
   put-is e = e ∙ ap (λ (x : Parts). putBack a (x .phases) (x .converters) (x .counter)) (s .is) ∙ put-ran owed a
 
   -- and with the place after its bytes
-  pub settled-play : {b : Apu} → b ≡ putBack a (r .phases) (r .converters) (r .counter)
-      → _≡_ {A = Play} (record { apu = b; at = r .at }) (further (record { apu = a; at = at }) (ranOf owed a .apu) (ranOf owed a .bytes))
-  settled-play e = ap₂ (λ (x : Apu) (n : ℕ). record { apu = x; at = n }) (put-is e) (ap (λ (x : Parts). x .at) (s .is))
+  pub settled-play : {b : Apu} → Ready a → b ≡ putBack a (r .phases) (r .converters) (r .counter)
+      → (_≡_ {A = Play} (record { apu = b; at = r .at }) (further (record { apu = a; at = at }) (ranOf owed a .apu) (ranOf owed a .bytes)))
+      × ((out ≡ sets out₀ at (ranOf owed a .bytes)) × (Held b × FloatsHeld b))
+  settled-play h e =
+      let ran = ran-ready owed a h in (
+        ap₂ (λ (x : Apu) (n : ℕ). record { apu = x; at = n }) (put-is e) (ap (λ (x : Parts). x .at) (s .is)),
+        (s .bytes, rw (put-is e) (ran .held, ran .floats)),
+      )

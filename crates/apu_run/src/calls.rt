@@ -116,6 +116,7 @@ pub fn settle(p: Play, owed: u32, out: &mut [u8]) -> Play
     requires { ⌜ p .at + length (ranOf owed (p .apu) .bytes) ≤ length (now out) ⌝ }
     ensures { λ r. ⌜ r ≡ further p (ranOf owed (p .apu) .apu) (ranOf owed (p .apu) .bytes) ⌝ }
     ensures { λ _. ⌜ now (out .exit) ≡ sets (now (out .entry)) (p .at) (ranOf owed (p .apu) .bytes) ⌝ }
+    ensures { λ r. ⌜ Held (r .apu) × FloatsHeld (r .apu) ⌝ }
 {
     let unit = p.apu;
     let ran = if silent(unit) {
@@ -135,6 +136,7 @@ pub fn fall(p: Play, owed: u32, out: &mut [u8]) -> Play
     requires { ⌜ p .at + length (ranOf owed (p .apu) .bytes) ≤ length (now out) ⌝ }
     ensures { λ r. ⌜ r ≡ further p (fallen (ranOf owed (p .apu) .apu)) (ranOf owed (p .apu) .bytes) ⌝ }
     ensures { λ _. ⌜ now (out .exit) ≡ sets (now (out .entry)) (p .at) (ranOf owed (p .apu) .bytes) ⌝ }
+    ensures { λ r. ⌜ Held (r .apu) × FloatsHeld (r .apu) ⌝ }
 {
     let q = settle(p, owed, out);
     let mut apu = q.apu;
@@ -161,6 +163,7 @@ pub fn play_clocks(
     requires { ⌜ p .at + length (clocksBytes double divider from (to - from) (p .apu)) ≤ length (now out) ⌝ }
     ensures { λ r. ⌜ r ≡ further p (afterClocks double divider from (to - from) (p .apu)) (clocksBytes double divider from (to - from) (p .apu)) ⌝ }
     ensures { λ _. ⌜ now (out .exit) ≡ sets (now (out .entry)) (p .at) (clocksBytes double divider from (to - from) (p .apu)) ⌝ }
+    ensures { λ r. ⌜ Held (r .apu) × FloatsHeld (r .apu) ⌝ }
 {
     let mut apu = p.apu;
     let mut place = p.at;

@@ -6,11 +6,16 @@ use Rattle.ground.proofs.Cases.{both-ways}
 use Rattle.frame.proofs.Ranges.{stepped-held}
 use Rattle.frame.specs.Mixing.{voiced}
 use Rattle.channel_parts.specs.Length as length
-use Rattle.channel_parts.proofs.Ranges.{envelope-clocked-held, length-fresh-held, length-written-held, length-reset-held, length-clocked-held, length-enabling-held, length-triggered-held}
+use Rattle.channel_parts.proofs.Ranges.{envelope-clocked-held, length-fresh-held, length-written-held, length-reset-held, length-clocked-held}
+use Rattle.channel_parts.proofs.Ranges.{length-enabling-held, length-triggered-held}
 use Rattle.channel_pulse.specs.Pulse as pulseChannel
-use Rattle.channel_pulse.proofs.Ranges.{pulse-fresh-held, pulse-duty-held, pulse-envelope-held, pulse-frequency-held, pulse-position-held, pulse-on-held, pulse-sweep-written-held, pulse-clocked-held, pulse-enveloped-held, pulse-sweep-clocked-held, pulse-triggered-held, pulse-output-le}
-use Rattle.channel_wave.proofs.Ranges.{wave-fresh-held, wave-volume-held, wave-frequency-held, wave-position-held, wave-on-held, wave-dac-held, wave-stored-held, wave-clocked-held, wave-triggered-held, wave-output-le}
-use Rattle.channel_noise.proofs.Ranges.{noise-fresh-held, noise-written-held, noise-envelope-held, noise-on-held, noise-clocked-held, noise-triggered-held, noise-enveloped-held, noise-output-le}
+use Rattle.channel_pulse.proofs.Ranges.{pulse-fresh-held, pulse-duty-held, pulse-envelope-held, pulse-frequency-held, pulse-position-held, pulse-on-held}
+use Rattle.channel_pulse.proofs.Ranges.{pulse-sweep-written-held, pulse-clocked-held, pulse-enveloped-held, pulse-sweep-clocked-held, pulse-triggered-held}
+use Rattle.channel_pulse.proofs.Ranges.{pulse-output-le}
+use Rattle.channel_wave.proofs.Ranges.{wave-fresh-held, wave-volume-held, wave-frequency-held, wave-position-held, wave-on-held, wave-dac-held}
+use Rattle.channel_wave.proofs.Ranges.{wave-stored-held, wave-clocked-held, wave-triggered-held, wave-output-le}
+use Rattle.channel_noise.proofs.Ranges.{noise-fresh-held, noise-written-held, noise-envelope-held, noise-on-held, noise-clocked-held}
+use Rattle.channel_noise.proofs.Ranges.{noise-triggered-held, noise-enveloped-held, noise-output-le}
 use Rattle.channel_groups.specs.Bits.{lowWritten, highWritten}
 use Rattle.channel_groups.specs.PulseGroups as pulse
 use Rattle.channel_groups.specs.WaveGroups as wave
@@ -38,7 +43,10 @@ module _ (g : PulseGroup) (h : pulse.Held g) where
   pulse-length-held : (power : Bool) (v : ℕ) → pulse.Held (pulse.lengthWritten g power v)
   unfolding pulse.lengthWritten
   pulse-length-held power v =
-      record { length = length-written-held 64 (g .length) (h .length) (v % 64); channel = both-ways pulseChannel.Held power (pulse-duty-held (g .channel) (h .channel) (v / 64)) (h .channel) }
+      record {
+        length = length-written-held 64 (g .length) (h .length) (v % 64);
+        channel = both-ways pulseChannel.Held power (pulse-duty-held (g .channel) (h .channel) (v / 64)) (h .channel);
+      }
 
   pulse-envelope-written-held : (v : ℕ) → v ≤ 255 → pulse.Held (pulse.envelopeWritten g v)
   unfolding pulse.envelopeWritten
@@ -46,7 +54,11 @@ module _ (g : PulseGroup) (h : pulse.Held g) where
 
   pulse-tuned-held : (v : ℕ) → v ≤ 255 → pulse.Held (pulse.tuned g v)
   unfolding pulse.tuned
-  pulse-tuned-held v k = record { length = h .length; channel = pulse-frequency-held (g .channel) (h .channel) _ (low-le (g .channel .frequency) v (h .channel .frequency) k) }
+  pulse-tuned-held v k =
+      record {
+        length = h .length;
+        channel = pulse-frequency-held (g .channel) (h .channel) _ (low-le (g .channel .frequency) v (h .channel .frequency) k);
+      }
 
   pub pulse-readied-held : (even : Bool) (v : ℕ) → pulse.Held (pulse.readied g even v)
   unfolding pulse.readied
@@ -58,7 +70,11 @@ module _ (g : PulseGroup) (h : pulse.Held g) where
 
   pub pulse-group-triggered-held : (even : Bool) → pulse.Held (pulse.triggered g even)
   unfolding pulse.triggered
-  pulse-group-triggered-held even = record { length = length-triggered-held 64 (g .length) (h .length) even; channel = pulse-triggered-held (g .channel) (h .channel) }
+  pulse-group-triggered-held even =
+      record {
+        length = length-triggered-held 64 (g .length) (h .length) even;
+        channel = pulse-triggered-held (g .channel) (h .channel);
+      }
 
   pub pulse-group-clocked-held : pulse.Held (pulse.clocked g)
   unfolding pulse.clocked
@@ -70,7 +86,11 @@ module _ (g : PulseGroup) (h : pulse.Held g) where
 
   pub pulse-envelope-clock-held : pulse.Held (pulse.envelopeClocked g)
   unfolding pulse.envelopeClocked
-  pulse-envelope-clock-held = record { length = h .length; channel = pulse-envelope-held (g .channel) (h .channel) _ (envelope-clocked-held (g .channel .envelope) (h .channel .envelope)) }
+  pulse-envelope-clock-held =
+      record {
+        length = h .length;
+        channel = pulse-envelope-held (g .channel) (h .channel) _ (envelope-clocked-held (g .channel .envelope) (h .channel .envelope));
+      }
 
   pub pulse-length-clock-held : pulse.Held (pulse.lengthClocked g)
   unfolding pulse.lengthClocked
@@ -127,7 +147,11 @@ module _ (g : WaveGroup) (h : wave.Held g) where
 
   wave-tuned-held : (v : ℕ) → v ≤ 255 → wave.Held (wave.tuned g v)
   unfolding wave.tuned
-  wave-tuned-held v k = record { length = h .length; channel = wave-frequency-held (g .channel) (h .channel) _ (low-le (g .channel .frequency) v (h .channel .frequency) k) }
+  wave-tuned-held v k =
+      record {
+        length = h .length;
+        channel = wave-frequency-held (g .channel) (h .channel) _ (low-le (g .channel .frequency) v (h .channel .frequency) k);
+      }
 
   pub wave-readied-held : (even : Bool) (v : ℕ) → wave.Held (wave.readied g even v)
   unfolding wave.readied
@@ -139,7 +163,11 @@ module _ (g : WaveGroup) (h : wave.Held g) where
 
   pub wave-group-triggered-held : (dmg even : Bool) → wave.Held (wave.triggered g dmg even)
   unfolding wave.triggered
-  wave-group-triggered-held dmg even = record { length = length-triggered-held 256 (g .length) (h .length) even; channel = wave-triggered-held (g .channel) (h .channel) dmg }
+  wave-group-triggered-held dmg even =
+      record {
+        length = length-triggered-held 256 (g .length) (h .length) even;
+        channel = wave-triggered-held (g .channel) (h .channel) dmg;
+      }
 
   pub wave-ram-held : (dmg : Bool) (offset v : ℕ) → wave.Held (wave.ramWritten g dmg offset v)
   unfolding wave.ramWritten
@@ -209,7 +237,11 @@ module _ (g : NoiseGroup) (h : noise.Held g) where
 
   pub noise-group-triggered-held : (even : Bool) → noise.Held (noise.triggered g even)
   unfolding noise.triggered
-  noise-group-triggered-held even = record { length = length-triggered-held 64 (g .length) (h .length) even; channel = noise-triggered-held (g .channel) (h .channel) }
+  noise-group-triggered-held even =
+      record {
+        length = length-triggered-held 64 (g .length) (h .length) even;
+        channel = noise-triggered-held (g .channel) (h .channel);
+      }
 
   pub noise-group-clocked-held : noise.Held (noise.clocked g)
   unfolding noise.clocked
@@ -217,7 +249,11 @@ module _ (g : NoiseGroup) (h : noise.Held g) where
 
   pub noise-envelope-clock-held : noise.Held (noise.envelopeClocked g)
   unfolding noise.envelopeClocked
-  noise-envelope-clock-held = record { length = h .length; channel = noise-envelope-held (g .channel) (h .channel) _ (envelope-clocked-held (g .channel .envelope) (h .channel .envelope)) }
+  noise-envelope-clock-held =
+      record {
+        length = h .length;
+        channel = noise-envelope-held (g .channel) (h .channel) _ (envelope-clocked-held (g .channel .envelope) (h .channel .envelope));
+      }
 
   pub noise-length-clock-held : noise.Held (noise.lengthClocked g)
   unfolding noise.lengthClocked

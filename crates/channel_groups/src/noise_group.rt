@@ -1,6 +1,7 @@
 // The noise with its length record and its converter.
 ghost use mathlib.Core.Path.{_≡_};
-ghost use Rattle.channel_groups.specs.NoiseGroups.{Held, fresh, readied, triggered, controlled, written, byteOf, clocked, lengthClocked, refilled, silenced, sounded, lengthWritten, envelopeWritten, noiseWritten, envelopeClocked};
+ghost use Rattle.channel_groups.specs.NoiseGroups.{Held, fresh, readied, triggered, controlled, written, byteOf, clocked, lengthClocked};
+ghost use Rattle.channel_groups.specs.NoiseGroups.{refilled, silenced, sounded, lengthWritten, envelopeWritten, noiseWritten, envelopeClocked};
 use crate::bits::control_byte;
 use channel_noise::noise_channel::NoiseChannel;
 use channel_parts::length::Length;

@@ -1,7 +1,9 @@
 // A pulse with its length record and its converter.
 ghost use mathlib.Core.Path.{_≡_};
 ghost use Prim.Native.Nat.{_≤_};
-ghost use Rattle.channel_groups.specs.PulseGroups.{Held, fresh, readied, triggered, controlled, written, byteOf, clocked, lengthClocked, refilled, silenced, sounded, sweepWritten, lengthWritten, envelopeWritten, tuned, sweepClocked, envelopeClocked, rewound};
+ghost use Rattle.channel_groups.specs.PulseGroups.{Held, fresh, readied, triggered, controlled, written, byteOf, clocked, lengthClocked, refilled};
+ghost use Rattle.channel_groups.specs.PulseGroups.{silenced, sounded, sweepWritten, lengthWritten, envelopeWritten, tuned, sweepClocked};
+ghost use Rattle.channel_groups.specs.PulseGroups.{envelopeClocked, rewound};
 use crate::bits::control_byte;
 use crate::bits::high_written;
 use crate::bits::low_written;

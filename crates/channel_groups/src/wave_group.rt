@@ -1,6 +1,7 @@
 // The wave with its length record and its converter.
 ghost use mathlib.Core.Path.{_≡_};
-ghost use Rattle.channel_groups.specs.WaveGroups.{Held, fresh, readied, triggered, controlled, written, byteOf, clocked, lengthClocked, refilled, silenced, sounded, dacWritten, lengthWritten, volumeWritten, tuned, ramWritten, rewound};
+ghost use Rattle.channel_groups.specs.WaveGroups.{Held, fresh, readied, triggered, controlled, written, byteOf, clocked, lengthClocked, refilled};
+ghost use Rattle.channel_groups.specs.WaveGroups.{silenced, sounded, dacWritten, lengthWritten, volumeWritten, tuned, ramWritten, rewound};
 use crate::bits::control_byte;
 use crate::bits::high_written;
 use crate::bits::low_written;

@@ -52,7 +52,14 @@ module _ (n : NoiseChannel) (h : noise.Held n) where
 
   pub noise-triggered-held : noise.Held (noise.triggered n)
   unfolding noise.triggered
-  noise-triggered-held = record { shift = h .shift; code = h .code; timer = h .timer; register = omega arith; envelope = envelope-triggered-held (n .envelope) (h .envelope) }
+  noise-triggered-held =
+      record {
+        shift = h .shift;
+        code = h .code;
+        timer = h .timer;
+        register = omega arith;
+        envelope = envelope-triggered-held (n .envelope) (h .envelope);
+      }
 
 pub noise-enveloped-held : (n : NoiseChannel) (v : ℕ) → v ≤ 255 → noise.Held n → noise.Held (noise.enveloped n v)
 unfolding noise.enveloped

@@ -1,7 +1,8 @@
 // The noise channel: `NoiseChannel` of noise_channel.rs, with its on/off rules from channel.rs.
 ghost use mathlib.Core.Path.{_≡_};
 ghost use Prim.Native.Nat.{_≤_, _*_, _%_, _^_};
-ghost use Rattle.channel_noise.specs.Noise.{Held, fresh, written, byteOf, dacSet, enveloped, divisorOf, reloadOf, feedbackOf, putBit, steppedRegister, clocked, triggered, outputOf, mutedOf};
+ghost use Rattle.channel_noise.specs.Noise.{Held, fresh, written, byteOf, dacSet, enveloped, divisorOf, reloadOf, feedbackOf, putBit};
+ghost use Rattle.channel_noise.specs.Noise.{steppedRegister, clocked, triggered, outputOf, mutedOf};
 ghost use Rattle.channel_noise.specs.With.{withOn};
 ghost use Rattle.channel_noise.specs.Phase.{NoisePhaseHeld, noisePhaseOf, withNoisePhase};
 use crate::phase::NoisePhase;

@@ -19,13 +19,31 @@ fresh max = record { «max_length» = max; length = 0; «current_counter» = 0; 
 
 -- the record with another length and counter, with another counter alone, with length enabled or not
 abbrev pub withLength : Length → ℕ → Length
-withLength l length = record { «max_length» = l .«max_length»; length = length; «current_counter» = length; «counter_decrease_enable» = l .«counter_decrease_enable» }
+withLength l length =
+    record {
+      «max_length» = l .«max_length»;
+      length = length;
+      «current_counter» = length;
+      «counter_decrease_enable» = l .«counter_decrease_enable»;
+    }
 
 abbrev pub withCounter : Length → ℕ → Length
-withCounter l counter = record { «max_length» = l .«max_length»; length = l .length; «current_counter» = counter; «counter_decrease_enable» = l .«counter_decrease_enable» }
+withCounter l counter =
+    record {
+      «max_length» = l .«max_length»;
+      length = l .length;
+      «current_counter» = counter;
+      «counter_decrease_enable» = l .«counter_decrease_enable»;
+    }
 
 abbrev pub withEnable : Length → Bool → Length
-withEnable l enable = record { «max_length» = l .«max_length»; length = l .length; «current_counter» = l .«current_counter»; «counter_decrease_enable» = enable }
+withEnable l enable =
+    record {
+      «max_length» = l .«max_length»;
+      length = l .length;
+      «current_counter» = l .«current_counter»;
+      «counter_decrease_enable» = enable;
+    }
 
 -- "A length write sets the counter to maximum less data"
 abbrev pub written : Length → ℕ → Length

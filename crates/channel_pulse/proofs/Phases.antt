@@ -30,9 +30,10 @@ pulse-phase-falls r t x = pick-true _ _ _ refl ∙ pick-false _ _ _ (eqb·suc-ze
 pub pulse-phase-ran : (a : PulsePhase) (r n : ℕ) (run : CountedDown) → PulsePhaseHeld a → run ≡ countedDown (a .«frequency_timer») (r + 1) n
     → record { «sequencer_position» = (a .«sequencer_position» + run .steps) % 8; «frequency_timer» = run .timer } ≡ iterate n (pulsePhaseClocked true r) a
 pulse-phase-ran a r n run h e =
-    ap (pulsePhaseAt (run .timer))
-    (sym (ap (iterate (run .steps) (λ (x : ℕ). (x + 1) % 8)) (sym (within (a .«sequencer_position») (h .position))) ∙ turns 8 (a .«sequencer_position») (run .steps)))
-    ∙ ran pulsePhaseAt (pulsePhaseClocked true r) (λ (x : ℕ). (x + 1) % 8) r (pulse-phase-fires r) (pulse-phase-falls r) n (a .«frequency_timer») (a .«sequencer_position») run e
+    let place = a .«sequencer_position» in
+    let step : ℕ → ℕ = λ (x : ℕ). (x + 1) % 8 in
+    ap (pulsePhaseAt (run .timer)) (sym (ap (iterate (run .steps) step) (sym (within place (h .position))) ∙ turns 8 place (run .steps)))
+    ∙ ran pulsePhaseAt (pulsePhaseClocked true r) step r (pulse-phase-fires r) (pulse-phase-falls r) n (a .«frequency_timer») place run e
   where
     within : (x : ℕ) → x ≤ 7 → x % 8 ≡ x
     within x h = omega arith
@@ -43,14 +44,16 @@ pulse-phase-stands r zero a = refl
 pulse-phase-stands r (suc n) a = ap (iterate n (pulsePhaseClocked false r)) (pick-false _ _ _ refl) ∙ pulse-phase-stands r n a
 
 -- the same by whether it was ever triggered: where not, a run of no clocks
-pub pulse-phase-either : (triggered : Bool) (a : PulsePhase) (r n : ℕ) (run : CountedDown) → PulsePhaseHeld a → run ≡ countedDown (a .«frequency_timer») (r + 1) (pick triggered n 0)
+pub pulse-phase-either : (triggered : Bool) (a : PulsePhase) (r n : ℕ) (run : CountedDown) → PulsePhaseHeld a
+    → run ≡ countedDown (a .«frequency_timer») (r + 1) (pick triggered n 0)
     → record { «sequencer_position» = (a .«sequencer_position» + run .steps) % 8; «frequency_timer» = run .timer } ≡ iterate n (pulsePhaseClocked triggered r) a
 unfolding pick iterate
 pulse-phase-either true a r n run h e = pulse-phase-ran a r n run h e
 pulse-phase-either false a r n run h e = pulse-phase-ran a r 0 run h e ∙ sym (pulse-phase-stands r n a)
 
 -- ---- the channel's clock
-pub pulse-phase-part : (p : PulseChannel) (t : PulsePhase) → clocked (withPulsePhase p t) ≡ withPulsePhase p (pulsePhaseClocked (p .«first_trigger») (2047 - p .frequency) t)
+pub pulse-phase-part : (p : PulseChannel) (t : PulsePhase)
+    → clocked (withPulsePhase p t) ≡ withPulsePhase p (pulsePhaseClocked (p .«first_trigger») (2047 - p .frequency) t)
 unfolding clocked ticked pulsePhaseClocked
 pulse-phase-part p t =
     ap (λ (x : PulseChannel). pick (p .«first_trigger») x (withPulsePhase p t)) (pick-ap (withPulsePhase p) (eqb (t .«frequency_timer») 0) _ _)

@@ -71,14 +71,23 @@ sweep-triggered-held s f h k =
 
 -- ---- a pulse
 pub pulse-fresh-held : pulse.Held pulse.fresh
-pulse-fresh-held = record { sweep = sweep-fresh-held; position = omega arith; duty = omega arith; envelope = envelope-fresh-held; frequency = omega arith; timer = omega arith }
+pulse-fresh-held =
+    record {
+      sweep = sweep-fresh-held;
+      position = omega arith;
+      duty = omega arith;
+      envelope = envelope-fresh-held;
+      frequency = omega arith;
+      timer = omega arith;
+    }
 
 module _ (p : PulseChannel) (h : pulse.Held p) where
   pub pulse-sweep-held : (s : Sweep) → sweep.Held s → pulse.Held (with.withSweep p s)
   pulse-sweep-held s k = record { sweep = k; position = h .position; duty = h .duty; envelope = h .envelope; frequency = h .frequency; timer = h .timer }
 
   pub pulse-duty-held : (d : ℕ) → pulse.Held (pulse.dutyWritten p d)
-  pulse-duty-held d = record { sweep = h .sweep; position = h .position; duty = omega arith; envelope = h .envelope; frequency = h .frequency; timer = h .timer }
+  pulse-duty-held d =
+      record { sweep = h .sweep; position = h .position; duty = omega arith; envelope = h .envelope; frequency = h .frequency; timer = h .timer }
 
   pub pulse-envelope-held : (e : Envelope) → envelope.Held e → pulse.Held (with.withEnvelope p e)
   pulse-envelope-held e k = record { sweep = h .sweep; position = h .position; duty = h .duty; envelope = k; frequency = h .frequency; timer = h .timer }

@@ -18,7 +18,16 @@ pub record Held (s : Sweep) : Type 0 where
 
 -- "Start: everything 0 or off"
 abbrev pub fresh : Sweep
-fresh = record { period = 0; «current_time» = 0; «internal_enable» = false; «frequency_shadow» = 0; negate = false; «shift_n» = 0; «calculation_happened» = false }
+fresh =
+    record {
+      period = 0;
+      «current_time» = 0;
+      «internal_enable» = false;
+      «frequency_shadow» = 0;
+      negate = false;
+      «shift_n» = 0;
+      «calculation_happened» = false;
+    }
 
 -- "An FF10 write that ends negate with the flag set turns the channel off; each one clears the flag"
 abbrev pub written : Sweep → ℕ → Checked

@@ -1,6 +1,7 @@
 // A pulse channel: `PulseChannel` of pulse_channel.rs, with its on/off rules from channel.rs.
 ghost use mathlib.Core.Path.{_≡_};
-ghost use Rattle.channel_pulse.specs.Pulse.{Held, fresh, dutyWritten, dacSet, sweepWritten, enveloped, ticked, clocked, sweepClocked, triggered, dutyRow, outputOf, mutedOf};
+ghost use Rattle.channel_pulse.specs.Pulse.{Held, fresh, dutyWritten, dacSet, sweepWritten, enveloped, ticked, clocked, sweepClocked, triggered};
+ghost use Rattle.channel_pulse.specs.Pulse.{dutyRow, outputOf, mutedOf};
 ghost use Rattle.channel_pulse.specs.With.{withPosition, withFrequency, withOn};
 ghost use Rattle.channel_pulse.specs.Phase.{PulsePhaseHeld, pulsePhaseOf, withPulsePhase};
 use crate::phase::PulsePhase;

@@ -1,7 +1,8 @@
 // The frequency sweep of pulse 1: the `sweep_` fields of `PulseChannel` in pulse_channel.rs. Pulse 2 has one too, which stays at rest.
 ghost use mathlib.Core.Path.{_≡_};
 ghost use Prim.Native.Nat.{_≤_};
-ghost use Rattle.channel_pulse.specs.Sweep.{Held, fresh, written, byteOf, reloaded, targetOf, calculated, checked, stored, updated, expired, clocked, sweepStarted, triggered};
+ghost use Rattle.channel_pulse.specs.Sweep.{Held, fresh, written, byteOf, reloaded, targetOf, calculated, checked, stored, updated, expired};
+ghost use Rattle.channel_pulse.specs.Sweep.{clocked, sweepStarted, triggered};
 use ground::num::flag;
 use ground::num::reload;
 use ground::num::saturating_sub;

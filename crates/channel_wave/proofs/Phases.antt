@@ -2,7 +2,7 @@
 use mathlib.Core.Path.{_≡_, refl, sym, ap, _∙_}
 use mathlib.Core.Bool.{Bool, true, false, not, _&&_}
 use Prim.Native.Nat.{ℕ, zero, suc, _+_, _-_, _*_, _/_, _%_, _≤_, _<_}
-use native.Mathlib.Nat.{mod-lt, mod-add-mod}
+use native.Mathlib.Nat.{mod-lt}
 use native.Mathlib.Numerals.{add-one}
 use native.Mathlib.Omega.{arith}
 use lib.Dec.{T, leb, eqb, leb→le, nleb→lt, eqb·suc-zero}
@@ -11,7 +11,8 @@ use Rattle.ground.specs.Iterate.{iterate}
 use Rattle.ground.specs.Timer.{countedDown}
 use Rattle.ground.specs.declared.timer.CountedDown.{CountedDown}
 use Rattle.ground.proofs.Cases.{pick-true, pick-false, both-ways}
-use Rattle.ground.proofs.Timers.{iterate-twice, settled, settled-some, up-to, beyond, run-still, run-more, iterate-holds, pick-ap, reload-back, less-one}
+use Rattle.ground.proofs.Timers.{iterate-twice, iterate-part, iterate-holds, turns, settled, settled-some, up-to, beyond, run-still, run-more}
+use Rattle.ground.proofs.Timers.{pick-ap, reload-back, less-one}
 use Rattle.channel_wave.specs.Wave.{Held, timerClocked, clocked}
 use Rattle.channel_wave.specs.Phase.{WavePhaseHeld, wavePhaseOf, withWavePhase, phaseTimerClocked, wavePhaseClocked}
 use Rattle.channel_wave.specs.declared.phase.WavePhase.{WavePhase}
@@ -27,22 +28,15 @@ wavePhaseStep a = ((a .0 + 1) % 32, true)
 abbrev wavePhaseIdle : ℕ × Bool → ℕ × Bool
 wavePhaseIdle a = (a .0, false)
 
-turns : (x k : ℕ) → iterate k wavePhaseStep (x % 32, true) ≡ ((x + k) % 32, true)
-unfolding iterate
-turns x zero = ap (λ (y : ℕ). (y % 32, true)) (plus-zero x)
-  where
-    plus-zero : (x : ℕ) → x ≡ x + zero
-    plus-zero x = omega arith
-turns x (suc k) =
-    ap (λ (y : ℕ). iterate k wavePhaseStep (y, true)) (mod-add-mod x 32 1) ∙ turns (x + 1) k ∙ ap (λ (y : ℕ). (y % 32, true)) (one-more x k)
-  where
-    one-more : (x k : ℕ) → x + 1 + k ≡ x + suc k
-    one-more x k = omega arith
+clocked-turns : (x k : ℕ) → iterate k wavePhaseStep (x % 32, true) ≡ ((x + k) % 32, true)
+clocked-turns x k =
+    let just : ℕ → ℕ × Bool = λ (y : ℕ). (y, true) in
+    iterate-part just wavePhaseStep (λ (y : ℕ). (y + 1) % 32) (λ y. refl) k (x % 32) ∙ ap just (turns 32 x k)
 
 steps-of : (a : ℕ × Bool) (k : ℕ) → iterate (k + 1) wavePhaseStep a ≡ ((a .0 + (k + 1)) % 32, true)
 unfolding iterate
 steps-of a k =
-    ap (λ (j : ℕ). iterate j wavePhaseStep a) (add-one k) ∙ turns (a .0 + 1) k ∙ ap (λ (y : ℕ). (y % 32, true)) (regroup (a .0) k)
+    ap (λ (j : ℕ). iterate j wavePhaseStep a) (add-one k) ∙ clocked-turns (a .0 + 1) k ∙ ap (λ (y : ℕ). (y % 32, true)) (regroup (a .0) k)
   where
     regroup : (x k : ℕ) → x + 1 + k ≡ x + (k + 1)
     regroup x k = omega arith
@@ -73,9 +67,25 @@ module _ (reload : ℕ) where
 
   -- what the code makes of a run
   abbrev result : WavePhase → CountedDown → WavePhase
-  result w r = record { «buffer_position» = (w .«buffer_position» + r .steps) % 32; «buffer_position_just_clocked» = not (eqb (r .steps) 0) && eqb (r .timer) reload; «frequency_timer» = r .timer }
+  result w r = record {
+    «buffer_position» = (w .«buffer_position» + r .steps) % 32;
+    «buffer_position_just_clocked» = not (eqb (r .steps) 0) && eqb (r .timer) reload;
+    «frequency_timer» = r .timer;
+  }
 
-  halves-ran : (w : WavePhase) (n : ℕ) (r : CountedDown) → WavePhaseHeld w → 0 < n → r ≡ countedDown (w .«frequency_timer») (reload + 1) n → result w r ≡ iterate n (phaseTimerClocked reload) w
+  -- the laws of the timer at the wave's clock
+  no-step : (n t : ℕ) (a : ℕ × Bool) → n ≤ t → iterate n (phaseTimerClocked reload) (wavePhaseAt t a) ≡ wavePhaseAt (t - n) (settled wavePhaseIdle n a)
+  no-step = up-to wavePhaseAt (phaseTimerClocked reload) wavePhaseStep wavePhaseIdle (reload + 1) some fires falls (λ x. refl) (λ x. refl)
+
+  some-steps : (n t : ℕ) (a : ℕ × Bool) → t < n
+      → let period = reload + 1 in
+      let m = n - t - 1 in
+      iterate n (phaseTimerClocked reload) (wavePhaseAt t a)
+      ≡ wavePhaseAt (period - 1 - m % period) (settled wavePhaseIdle (m % period) (iterate (m / period + 1) wavePhaseStep a))
+  some-steps = beyond wavePhaseAt (phaseTimerClocked reload) wavePhaseStep wavePhaseIdle (reload + 1) some fires falls (λ x. refl) (λ x. refl)
+
+  halves-ran : (w : WavePhase) (n : ℕ) (r : CountedDown) → WavePhaseHeld w → 0 < n → r ≡ countedDown (w .«frequency_timer») (reload + 1) n
+      → result w r ≡ iterate n (phaseTimerClocked reload) w
   halves-ran w n r h pos e = go (leb n (w .«frequency_timer»)) (leb→le n (w .«frequency_timer»)) (nleb→lt n (w .«frequency_timer»))
     where
       stays : (x : ℕ) → x ≤ 31 → (x + 0) % 32 ≡ x
@@ -92,23 +102,29 @@ module _ (reload : ℕ) where
 
       go : (b : Bool) → (T b → n ≤ w .«frequency_timer») → (T (not b) → w .«frequency_timer» < n) → result w r ≡ iterate n (phaseTimerClocked reload) w
       go true g l =
+          let rest : ℕ × Bool = (w .«buffer_position», w .«buffer_position_just_clocked») in
           ap (result w) (e ∙ run-still (w .«frequency_timer») (reload + 1) n (g tt))
           ∙ ap (λ (x : ℕ). wavePhaseAt (w .«frequency_timer» - n) (x, false)) (stays (w .«buffer_position») (h .position))
-          ∙ ap (wavePhaseAt (w .«frequency_timer» - n)) (sym (settled-some wavePhaseIdle n (w .«buffer_position», w .«buffer_position_just_clocked») pos))
-          ∙ sym (up-to wavePhaseAt (phaseTimerClocked reload) wavePhaseStep wavePhaseIdle (reload + 1) some fires falls (λ x. refl) (λ x. refl) n (w .«frequency_timer») (w .«buffer_position», w .«buffer_position_just_clocked») (g tt))
+          ∙ ap (wavePhaseAt (w .«frequency_timer» - n)) (sym (settled-some wavePhaseIdle n rest pos))
+          ∙ sym (no-step n (w .«frequency_timer») rest (g tt))
       go false g l =
+          let rest : ℕ × Bool = (w .«buffer_position», w .«buffer_position_just_clocked») in
           let m = n - w .«frequency_timer» - 1 in
           let period = reload + 1 in
           let q = m / period in
+          let place = (w .«buffer_position» + (q + 1)) % 32 in
           let t = period - 1 - m % period in
           let left : m % period < period = mod-lt m some in
+          let just = same-test (m % period) 0 t reload (reloads (m % period) reload) (λ x. reloaded (m % period) reload x left) in
+          let stepped = ap (settled wavePhaseIdle (m % period)) (steps-of rest q) ∙ settled-flag (m % period) place in
           ap (result w) (e ∙ run-more (w .«frequency_timer») period n (l tt))
-          ∙ ap (λ (b : Bool). wavePhaseAt t ((w .«buffer_position» + (q + 1)) % 32, not b && eqb t reload)) (ne-eqb (q + 1) 0 (never q))
-          ∙ ap (λ (b : Bool). wavePhaseAt t ((w .«buffer_position» + (q + 1)) % 32, b)) (sym (same-test (m % period) 0 t reload (reloads (m % period) reload) (λ x. reloaded (m % period) reload x left)))
-          ∙ ap (wavePhaseAt t) (sym (ap (settled wavePhaseIdle (m % period)) (steps-of (w .«buffer_position», w .«buffer_position_just_clocked») q) ∙ settled-flag (m % period) ((w .«buffer_position» + (q + 1)) % 32)))
-          ∙ sym (beyond wavePhaseAt (phaseTimerClocked reload) wavePhaseStep wavePhaseIdle period some fires falls (λ x. refl) (λ x. refl) n (w .«frequency_timer») (w .«buffer_position», w .«buffer_position_just_clocked») (l tt))
+          ∙ ap (λ (b : Bool). wavePhaseAt t (place, not b && eqb t reload)) (ne-eqb (q + 1) 0 (never q))
+          ∙ ap (λ (b : Bool). wavePhaseAt t (place, b)) (sym just)
+          ∙ ap (wavePhaseAt t) (sym stepped)
+          ∙ sym (some-steps n (w .«frequency_timer») rest (l tt))
 
-  pub wave-phase-ran : (w : WavePhase) (n : ℕ) (r : CountedDown) → WavePhaseHeld w → (n ≡ 0 → ⊥) → r ≡ countedDown (w .«frequency_timer») (reload + 1) (n * 2) → result w r ≡ iterate n (wavePhaseClocked reload) w
+  pub wave-phase-ran : (w : WavePhase) (n : ℕ) (r : CountedDown) → WavePhaseHeld w → (n ≡ 0 → ⊥)
+      → r ≡ countedDown (w .«frequency_timer») (reload + 1) (n * 2) → result w r ≡ iterate n (wavePhaseClocked reload) w
   unfolding wavePhaseClocked
   wave-phase-ran w n r h pos e = halves-ran w (n * 2) r h (twice n pos) e ∙ sym (iterate-twice n (phaseTimerClocked reload) w)
     where

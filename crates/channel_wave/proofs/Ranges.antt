@@ -18,7 +18,10 @@ use Rattle.channel_wave.specs.declared.wave_channel.BufferIndex.the-vari
 -- the stored shift, whichever of the two it is
 shift-table : (v : ℕ) → wave.shiftOf v ≤ 4
 unfolding wave.shiftOf
-shift-table v = both-ways (λ (n : ℕ). n ≤ 4) _ (omega arith) (both-ways (λ (n : ℕ). n ≤ 4) _ (omega arith) (both-ways (λ (n : ℕ). n ≤ 4) _ (omega arith) (omega arith)))
+shift-table v =
+    both-ways (λ (n : ℕ). n ≤ 4) _ (omega arith)
+    (both-ways (λ (n : ℕ). n ≤ 4) _ (omega arith)
+    (both-ways (λ (n : ℕ). n ≤ 4) _ (omega arith) (omega arith)))
 
 shift-of-held : (v s : ℕ) → wave.ShiftHeld v s → s ≤ 4
 shift-of-held v s (inl e) = rw e (shift-table v)
@@ -37,7 +40,15 @@ unfolding wave.indexOf
 index-lands w dmg offset = both-ways Lands _ (both-ways Lands _ tt (omega arith)) (omega arith)
 
 pub wave-fresh-held : wave.Held wave.fresh
-wave-fresh-held = record { volume = omega arith; shift = inr (refl, refl); frequency = omega arith; buffer = length-replicate {A = ℕ} 16 0; position = omega arith; timer = omega arith }
+wave-fresh-held =
+    record {
+      volume = omega arith;
+      shift = inr (refl, refl);
+      frequency = omega arith;
+      buffer = length-replicate {A = ℕ} 16 0;
+      position = omega arith;
+      timer = omega arith;
+    }
 
 module _ (w : WaveChannel) (h : wave.Held w) where
   pub wave-volume-held : (v : ℕ) → wave.Held (wave.volumeWritten w v)
@@ -59,7 +70,8 @@ module _ (w : WaveChannel) (h : wave.Held w) where
   wave-dac-held dac = record { volume = h .volume; shift = h .shift; frequency = h .frequency; buffer = h .buffer; position = h .position; timer = h .timer }
 
   wave-moved-held : (position : ℕ) (just : Bool) (timer : ℕ) → position ≤ 31 → timer ≤ 2050 → wave.Held (with.withPositionAndTimer w position just timer)
-  wave-moved-held position just timer a b = record { volume = h .volume; shift = h .shift; frequency = h .frequency; buffer = h .buffer; position = a; timer = b }
+  wave-moved-held position just timer a b =
+      record { volume = h .volume; shift = h .shift; frequency = h .frequency; buffer = h .buffer; position = a; timer = b }
 
   stored-length : (i : BufferIndex) (v : ℕ) → length (wave.storedIn (w .buffer) i v) ≡ 16
   stored-length (At i) v = simp length-set (h .buffer)
@@ -82,7 +94,15 @@ module _ (w : WaveChannel) (h : wave.Held w) where
 
   pub wave-triggered-held : (dmg : Bool) → wave.Held (wave.triggered w dmg)
   unfolding wave.triggered
-  wave-triggered-held dmg = record { volume = h .volume; shift = h .shift; frequency = h .frequency; buffer = trigger-length dmg; position = omega arith; timer = omega arith }
+  wave-triggered-held dmg =
+      record {
+        volume = h .volume;
+        shift = h .shift;
+        frequency = h .frequency;
+        buffer = trigger-length dmg;
+        position = omega arith;
+        timer = omega arith;
+      }
 
 pub wave-clocked-held : (w : WaveChannel) → wave.Held w → wave.Held (wave.clocked w)
 unfolding wave.clocked

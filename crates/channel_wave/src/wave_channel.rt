@@ -1,7 +1,8 @@
 // The wave channel: `WaveChannel` of wave_channel.rs, with its on/off rules from channel.rs. The model, DMG or not, is handed in.
 ghost use mathlib.Core.Path.{_≡_};
 ghost use Prim.Native.Nat.{_≤_};
-ghost use Rattle.channel_wave.specs.Wave.{Held, fresh, shiftOf, volumeWritten, dacSet, indexOf, byteAt, stored, timerClocked, clocked, fourFrom, rewritten, bufferAtTrigger, triggered, nibbleOf, outputOf, mutedOf};
+ghost use Rattle.channel_wave.specs.Wave.{Held, fresh, shiftOf, volumeWritten, dacSet, indexOf, byteAt, stored, timerClocked, clocked};
+ghost use Rattle.channel_wave.specs.Wave.{fourFrom, rewritten, bufferAtTrigger, triggered, nibbleOf, outputOf, mutedOf};
 ghost use Rattle.channel_wave.specs.With.{withFrequency, withPosition, withOn};
 ghost use Rattle.channel_wave.specs.Phase.{WavePhaseHeld, wavePhaseOf, withWavePhase};
 use crate::phase::WavePhase;

@@ -1,7 +1,8 @@
--- Working clocks from frame to frame: short of the next frame they only clock the rest of a state, and the one that makes it makes it before that. Assumes nothing.
+-- Working clocks from frame to frame: short of the next frame they only clock the rest of a state, and the one that makes it makes it before that.
+-- Assumes nothing.
 use mathlib.Core.Path.{_≡_, refl, ap, _∙_}
 use Prim.Native.Nat.{ℕ, zero, suc, _+_, _-_, _*_, _^_, _≤_, _<_}
-use native.Mathlib.Nat.{add-mul}
+use native.Mathlib.Nat.{add-mul, suc-mul, add-sub-cancel}
 use native.Mathlib.Omega.{arith}
 use lib.Ieee.{Float, binary64}
 use Rattle.ground.specs.Pick.{pick}
@@ -33,7 +34,8 @@ module _ {S A : Type 0} (at : Float → A → S) (work : S → S) (clock frame :
     one-frame : (k : ℕ) (a : A) → k < M → M ≤ k + 2 ^ u → work (at (unitsOf binary64 u k) a) ≡ at (unitsOf binary64 u (k + 2 ^ u - M)) (clock (frame a))
     one-frame k a h l = works (unitsOf binary64 u k) a ∙ ap (by a) (tick-frame u M r k h l) ∙ unfold pick in refl
 
-    pub clocks-short : (n k : ℕ) (a : A) → k + n * 2 ^ u < M → iterate n work (at (unitsOf binary64 u k) a) ≡ at (unitsOf binary64 u (k + n * 2 ^ u)) (iterate n clock a)
+    pub clocks-short : (n k : ℕ) (a : A) → k + n * 2 ^ u < M
+        → iterate n work (at (unitsOf binary64 u k) a) ≡ at (unitsOf binary64 u (k + n * 2 ^ u)) (iterate n clock a)
     unfolding iterate
     clocks-short zero k a h = ap (λ (x : ℕ). at (unitsOf binary64 u x) a) (none k (2 ^ u))
       where
@@ -45,7 +47,7 @@ module _ {S A : Type 0} (at : Float → A → S) (work : S → S) (clock frame :
         ∙ ap (λ (x : ℕ). at (unitsOf binary64 u x) (iterate n clock (clock a))) (all k n (2 ^ u))
       where
         all : (k n p : ℕ) → k + p + n * p ≡ k + suc n * p
-        all k n p = let e : (n + 1) * p ≡ n * p + 1 * p = add-mul n 1 p in omega arith
+        all k n p = let e : suc n * p ≡ n * p + p = suc-mul n p in omega arith
 
         first : (k n p : ℕ) → k + suc n * p < M → k + p < M
         first k n p h = let e = all k n p in omega arith
@@ -59,13 +61,10 @@ module _ {S A : Type 0} (at : Float → A → S) (work : S → S) (clock frame :
         (iterate-add n 1 work (at (unitsOf binary64 u k) a)
         ∙ ap work (clocks-short n k a (due .short))
         ∙ one-frame (k + n * 2 ^ u) (iterate n clock a) (due .short) (due .enough)
-        ∙ rw (all n (2 ^ u), back n))
+        ∙ rw (all n (2 ^ u), add-sub-cancel n 1))
       where
         all : (n p : ℕ) → k + n * p + p - M ≡ k + (n + 1) * p - M
         all n p = let e : (n + 1) * p ≡ n * p + 1 * p = add-mul n 1 p in omega arith
-
-        back : (n : ℕ) → n + 1 - 1 ≡ n
-        back n = omega arith
 
   -- ---- at 44,100
   module _ (works : Works (everyAt 44100) at work clock frame) where

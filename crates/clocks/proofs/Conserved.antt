@@ -1,9 +1,12 @@
--- Demand 3: t units in all since the start are t / K frames and t % K units kept, and each working clock adds 2 ^ u units with nothing rounded. Assumes nothing.
+-- Demand 3: t units in all since the start are t / K frames and t % K units kept, and each working clock adds 2 ^ u units with nothing rounded.
+-- Assumes nothing.
 use mathlib.Core.Path.{_≡_, refl, sym, ap, _∙_}
 use mathlib.Core.Bool.{Bool, true, false, not}
 use mathlib.Core.List.{List, [], _∷_}
 use Prim.Native.Nat.{ℕ, zero, suc, _+_, _-_, _*_, _/_, _%_, _^_, _≤_, _<_}
-use native.Mathlib.Nat.{mod-lt, mod-eq-of-lt, div-eq-of-lt, div-add-mod', mul-add-div-right, mul-add-mod-self-right, add-zero, add-assoc, add-mul, one-mul, zero-add, zero-mul, lt-of-lt-of-le, le-trans, le-add-right, mod-eq-sub-div-mul}
+use native.Mathlib.Nat.{mod-lt, mod-eq-of-lt, div-eq-of-lt, div-add-mod', mul-add-div-right, mul-add-mod-self-right, mod-eq-sub-div-mul}
+use native.Mathlib.Nat.{add-zero, zero-add, add-assoc, add-mul, one-mul, zero-mul, lt-of-lt-of-le, le-trans, le-add-right}
+use native.Mathlib.Numerals.{one-add}
 use native.Mathlib.Omega.{arith}
 use lib.Dec.{T, leb, ltb, leb→le, nleb→lt, ltb→lt, nltb→le, lit≤, lit<}
 use lib.Pow.{pow-pos}
@@ -13,9 +16,10 @@ use lib.Ieee.Scale.{round-same}
 use Rattle.clocks.specs.declared.sample_counter.Ticked.{Ticked}
 use Rattle.ground.specs.Units.{unitsOf}
 use Rattle.clocks.specs.Counter.{everyAt, tickBy}
-use Rattle.clocks.specs.Calls.{Call, normal, double, other, refused, Clocks, more, after, clocked, run, fresh, normals, doubles, times, workingClocks, K, Conserved}
+use Rattle.clocks.specs.Calls.{Call, normal, double, other, refused, Clocks, more, after, clocked, run, fresh}
+use Rattle.clocks.specs.Calls.{normals, doubles, times, workingClocks, K, Conserved}
 use Rattle.ground.proofs.Units.{exact}
-use Rattle.clocks.proofs.Working.{left, Room, tick-units}
+use Rattle.clocks.proofs.Working.{left, Room, room-pos, tick-units}
 
 -- ---- quotient and remainder, known by their sum
 pub div-mod-is : (n M q r : ℕ) → r < M → n ≡ q * M + r → (n / M ≡ q) × (n % M ≡ r)
@@ -41,19 +45,22 @@ enough t M p q r e h =
 too-few : (t M p q r : ℕ) → q * M + r ≡ t → t + p ≡ q * M + (r + p)
 too-few t M p q r e = omega arith
 
-rest-lt : (r p M : ℕ) → r < M → p ≤ M → r + p - M < M
+pub rest-lt : (r p M : ℕ) → r < M → p ≤ M → r + p - M < M
 rest-lt r p M h l = omega arith
 
 tock : (u M f h t : ℕ) → Room u M → counted (tickBy (unitsOf binary64 u M) (unitsOf binary64 u (t % M))) h (f + t / M) ≡ heldAt u M f h (t + 2 ^ u)
 tock u M f h t r =
     let p = 2 ^ u in
-    let z : 0 < M = lt-of-lt-of-le (pow-pos u) (r .low) in
+    let z : 0 < M = room-pos r in
     ap (λ (c : Ticked). counted c h (f + t / M)) (tick-units u M (t % M) r (mod-lt t z))
     ∙ go (leb M (t % M + p)) (leb→le M (t % M + p)) (nleb→lt M (t % M + p)) z
   where
-    go : (b : Bool) → (T b → M ≤ t % M + 2 ^ u) → (T (not b) → t % M + 2 ^ u < M) → 0 < M → counted (left u M b (t % M + 2 ^ u)) h (f + t / M) ≡ heldAt u M f h (t + 2 ^ u)
+    go : (b : Bool) → (T b → M ≤ t % M + 2 ^ u) → (T (not b) → t % M + 2 ^ u < M) → 0 < M
+        → counted (left u M b (t % M + 2 ^ u)) h (f + t / M) ≡ heldAt u M f h (t + 2 ^ u)
     go true g l z =
-        let d = div-mod-is (t + 2 ^ u) M (t / M + 1) (t % M + 2 ^ u - M) (rest-lt (t % M) (2 ^ u) M (mod-lt t z) (r .low)) (enough t M (2 ^ u) (t / M) (t % M) (div-add-mod' t M) (g tt)) in
+        let below = rest-lt (t % M) (2 ^ u) M (mod-lt t z) (r .low) in
+        let sum = enough t M (2 ^ u) (t / M) (t % M) (div-add-mod' t M) (g tt) in
+        let d = div-mod-is (t + 2 ^ u) M (t / M + 1) (t % M + 2 ^ u - M) below sum in
         rw (d .0, d .1, ← add-assoc f (t / M) 1)
     go false g l z =
         let d = div-mod-is (t + 2 ^ u) M (t / M) (t % M + 2 ^ u) (l tt) (too-few t M (2 ^ u) (t / M) (t % M) (div-add-mod' t M)) in
@@ -66,7 +73,11 @@ reached u M f k H = heldAt u M f (H % 2) (k + H / 2 * 2 ^ u)
 clocked-reached : (u M f k H d : ℕ) → Room u M → d ≤ 2 → clocked (unitsOf binary64 u M) d (reached u M f k H) ≡ reached u M f k (H + d)
 clocked-reached u M f k H d r D = go (ltb (H % 2 + d) 2) (ltb→lt (H % 2 + d) 2) (nltb→le (H % 2 + d) 2)
   where
-    go : (b : Bool) → (T b → H % 2 + d < 2) → (T (not b) → 2 ≤ H % 2 + d) → after b (unitsOf binary64 u M) (H % 2 + d) (reached u M f k H) ≡ reached u M f k (H + d)
+    one-clock : (n p : ℕ) → k + (n + 1) * p ≡ k + n * p + p
+    one-clock n p = let e : (n + 1) * p ≡ n * p + 1 * p = add-mul n 1 p in omega arith
+
+    go : (b : Bool) → (T b → H % 2 + d < 2) → (T (not b) → 2 ≤ H % 2 + d)
+        → after b (unitsOf binary64 u M) (H % 2 + d) (reached u M f k H) ≡ reached u M f k (H + d)
     go true g l =
         let s : H % 2 + d < 2 = g tt in
         let a : (H + d) % 2 ≡ H % 2 + d = omega arith in
@@ -76,8 +87,7 @@ clocked-reached u M f k H d r D = go (ltb (H % 2 + d) 2) (ltb→lt (H % 2 + d) 2
         let s : 2 ≤ H % 2 + d = l tt in
         let a : (H + d) % 2 ≡ H % 2 + d - 2 = omega arith in
         let b : (H + d) / 2 ≡ H / 2 + 1 = omega arith in
-        let c : k + (H / 2 + 1) * 2 ^ u ≡ k + H / 2 * 2 ^ u + 2 ^ u = ap (λ (x : ℕ). k + x) (add-mul (H / 2) 1 (2 ^ u) ∙ ap (λ (x : ℕ). H / 2 * 2 ^ u + x) (one-mul (2 ^ u))) ∙ sym (add-assoc k (H / 2 * 2 ^ u) (2 ^ u)) in
-        rw (a, b, c) (tock u M f (H % 2 + d - 2) (k + H / 2 * 2 ^ u) r)
+        rw (a, b, one-clock (H / 2) (2 ^ u)) (tock u M f (H % 2 + d - 2) (k + H / 2 * 2 ^ u) r)
 
 two-more : (H a b : ℕ) → H + 2 + (2 * a + b) ≡ H + (2 * (1 + a) + (0 + b))
 two-more H a b = omega arith
@@ -96,9 +106,13 @@ run-reached : (u M f k : ℕ) (cs : List Call) (H : ℕ) → Room u M → run (u
 unfolding run halves normals doubles
 run-reached u M f k [] H r = ap (reached u M f k) (sym (add-zero H))
 run-reached u M f k (normal ∷ cs) H r =
-    ap (run (unitsOf binary64 u M) cs) (clocked-reached u M f k H 2 r (lit≤ tt)) ∙ run-reached u M f k cs (H + 2) r ∙ ap (reached u M f k) (two-more H (normals cs) (doubles cs))
+    ap (run (unitsOf binary64 u M) cs) (clocked-reached u M f k H 2 r (lit≤ tt))
+    ∙ run-reached u M f k cs (H + 2) r
+    ∙ ap (reached u M f k) (two-more H (normals cs) (doubles cs))
 run-reached u M f k (double ∷ cs) H r =
-    ap (run (unitsOf binary64 u M) cs) (clocked-reached u M f k H 1 r (lit≤ tt)) ∙ run-reached u M f k cs (H + 1) r ∙ ap (reached u M f k) (one-more H (normals cs) (doubles cs))
+    ap (run (unitsOf binary64 u M) cs) (clocked-reached u M f k H 1 r (lit≤ tt))
+    ∙ run-reached u M f k cs (H + 1) r
+    ∙ ap (reached u M f k) (one-more H (normals cs) (doubles cs))
 run-reached u M f k (other ∷ cs) H r = run-reached u M f k cs H r ∙ ap (reached u M f k) (no-more H (normals cs) (doubles cs))
 run-reached u M f k (refused ∷ cs) H r = run-reached u M f k cs H r ∙ ap (reached u M f k) (no-more H (normals cs) (doubles cs))
 
@@ -110,7 +124,8 @@ from-kept u M f g k cs r G h =
     let a : g % 2 ≡ g = omega arith in
     let b : g / 2 ≡ 0 = omega arith in
     let c : k + 0 * 2 ^ u ≡ k = ap (λ (x : ℕ). k + x) (zero-mul (2 ^ u)) ∙ add-zero k in
-    let start : reached u M f k g ≡ record { half = g; counter = unitsOf binary64 u k; frames = f } = rw (a, b, c, mod-eq-of-lt h, div-eq-of-lt h, add-zero f) in
+    let start : reached u M f k g ≡ record { half = g; counter = unitsOf binary64 u k; frames = f } =
+    rw (a, b, c, mod-eq-of-lt h, div-eq-of-lt h, add-zero f) in
     ap (run (unitsOf binary64 u M) cs) (sym start) ∙ run-reached u M f k cs g r
 
 -- ---- from a fresh unit, over any calls, with N as M units of 2 ^ -u
@@ -132,18 +147,18 @@ same-half a b = omega arith
 pub from-fresh : (u M : ℕ) → Room u M → (cs : List Call) → run (unitsOf binary64 u M) cs fresh ≡ heldAt u M 0 (doubles cs % 2) (workingClocks cs * 2 ^ u)
 from-fresh u M r cs =
     ap (λ (x : Float). run (unitsOf binary64 u M) cs (record { half = 0; counter = x; frames = 0 })) (sym (zero-units u))
-    ∙ from-kept u M 0 0 0 cs r (lit< tt) (lt-of-lt-of-le (pow-pos u) (r .low))
+    ∙ from-kept u M 0 0 0 cs r (lit< tt) (room-pos r)
     ∙ rw (same-W (normals cs) (doubles cs), same-half (normals cs) (doubles cs), zero-add (workingClocks cs * 2 ^ u))
 
 -- demand 3, in its words
 pub conserved-by : (u M : ℕ) → Room u M → (cs : List Call) → Conserved u M cs (run (unitsOf binary64 u M) cs fresh)
 conserved-by u M r cs =
     let t = workingClocks cs * 2 ^ u in
-    let z : 0 < M = lt-of-lt-of-le (pow-pos u) (r .low) in
+    let small : t % M < 2 ^ 53 = lt-of-lt-of-le (mod-lt t (room-pos r)) (le-trans (le-add-right M (2 ^ u)) (r .high)) in
     rw (from-fresh u M r cs)
     (record {
       frames = zero-add (t / M);
-      rest = rw (zero-add (t / M), ← mod-eq-sub-div-mul t M) (exact binary64 u (t % M) (r .deep) (lt-of-lt-of-le (mod-lt t z) (le-trans (le-add-right M (2 ^ u)) (r .high))));
+      rest = rw (zero-add (t / M), ← mod-eq-sub-div-mul t M) (exact binary64 u (t % M) (r .deep) small);
       half = refl;
     })
 
@@ -169,13 +184,10 @@ room = record { deep = lit≤ tt; low = lit≤ tt; high = lit≤ tt }
 pub conserved : (cs : List Call) → Conserved 48 K cs (run (everyAt 44100) cs fresh)
 conserved cs = rw every-units (conserved-by 48 K room cs)
 
-one-more-is : (n : ℕ) → 1 + n ≡ suc n
-one-more-is n = omega arith
-
 normals-times : (n : ℕ) → normals (times n normal) ≡ n
 unfolding normals times
 normals-times zero = refl
-normals-times (suc n) = ap (λ (x : ℕ). 1 + x) (normals-times n) ∙ one-more-is n
+normals-times (suc n) = ap (λ (x : ℕ). 1 + x) (normals-times n) ∙ one-add n
 
 doubles-times : (n : ℕ) → doubles (times n normal) ≡ 0
 unfolding doubles times

@@ -4,10 +4,10 @@ use mathlib.Core.Bool.{Bool, true, false, not}
 use Prim.Native.Nat.{ℕ, zero, suc, _+_, _-_, _*_, _/_, _^_, _≤_, _<_}
 use native.Mathlib.Nat.{add-mul, one-mul, mul-one, mul-div-cancel, lt-of-lt-of-le, mul-le-mul-right}
 use native.Mathlib.Omega.{arith}
-use lib.Dec.{T, leb, leb→le, nleb→lt, lit≤, lit<}
+use lib.Dec.{T, leb, leb→le, le→leb, nleb→lt, lit≤, lit<}
 use lib.Pow.{pow-pos}
 use lib.IntN.{pos}
-use lib.Ieee.{Float, nan, inf, fin, down, binary64, round, mul, div, ofInt, ofBits}
+use lib.Ieee.{Float, nan, inf, fin, down, binary64, round, mul, div, inFloat, ofInt, ofBits}
 use lib.Ieee.Scale.{round-same}
 use lib.Ieee.Exact.{HasValue}
 use lib.Ieee.Fits.{down-pos}
@@ -33,13 +33,15 @@ pub record Due (p M k d : ℕ) : Type 0 where
 -- ---- at any N of M units of 2 ^ -u
 module _ (u M : ℕ) (r : Room u M) where
   -- a working clock that makes no frame, and one that makes it
-  pub tick-short : (k : ℕ) → k + 2 ^ u < M → tickBy (unitsOf binary64 u M) (unitsOf binary64 u k) ≡ record { made = false; counter = unitsOf binary64 u (k + 2 ^ u) }
+  pub tick-short : (k : ℕ) → k + 2 ^ u < M
+      → tickBy (unitsOf binary64 u M) (unitsOf binary64 u k) ≡ record { made = false; counter = unitsOf binary64 u (k + 2 ^ u) }
   tick-short k h = tick-units u M k r (smaller k (2 ^ u) h) ∙ ap (λ (b : Bool). left u M b (k + 2 ^ u)) (lt-leb M (k + 2 ^ u) h)
     where
       smaller : (k p : ℕ) → k + p < M → k < M
       smaller k p h = omega arith
 
-  pub tick-frame : (k : ℕ) → k < M → M ≤ k + 2 ^ u → tickBy (unitsOf binary64 u M) (unitsOf binary64 u k) ≡ record { made = true; counter = unitsOf binary64 u (k + 2 ^ u - M) }
+  pub tick-frame : (k : ℕ) → k < M → M ≤ k + 2 ^ u
+      → tickBy (unitsOf binary64 u M) (unitsOf binary64 u k) ≡ record { made = true; counter = unitsOf binary64 u (k + 2 ^ u - M) }
   tick-frame k h l = tick-units u M k r h ∙ ap (λ (b : Bool). left u M b (k + 2 ^ u)) (le-leb M (k + 2 ^ u) l)
 
   -- the distance by the outcome of the next working clock
@@ -134,6 +136,11 @@ module _ (c : Float) (h : Kept 48 K c) where
   pub kept-below : unitsIn c < K
   kept-below = rw kept-in (h .below)
 
+-- an f64 holds each number below K
+pub K-held : (k : ℕ) → k < K → T (inFloat binary64 (pos k))
+unfolding inFloat
+K-held k h = le→leb k (2 ^ 53) (omega arith)
+
 -- the f64 2 ^ 48
 pub scale-is : ofBits binary64 0x42f0_0000_0000_0000 ≡ round binary64 false 281474976710656 1
 unfolding ofBits round
@@ -146,11 +153,14 @@ whole-value n h = exact binary64 0 n (lit≤ tt) h
 pub scaled-up : (k : ℕ) → k < K → mul binary64 (units k) (round binary64 false (2 ^ 48) 1) ≡ ofInt binary64 (pos k)
 unfolding ofInt
 scaled-up k h =
-    mul-is binary64 (units k) (round binary64 false (2 ^ 48) 1) false false k (2 ^ 48) (2 ^ 48) 1 (pow-pos 48) (lit< tt) (value k h) (whole-value (2 ^ 48) (lit< tt))
+    let scale = whole-value (2 ^ 48) (lit< tt) in
+    mul-is binary64 (units k) (round binary64 false (2 ^ 48) 1) false false k (2 ^ 48) (2 ^ 48) 1 (pow-pos 48) (lit< tt) (value k h) scale
     ∙ round-same binary64 false (k * 2 ^ 48) (2 ^ 48 * 1) k 1 (lit< tt) (lit< tt) (mul-one (k * 2 ^ 48) ∙ ap (λ (x : ℕ). k * x) (sym (mul-one (2 ^ 48))))
 
 pub scaled-down : (k : ℕ) → k < K → div binary64 (ofInt binary64 (pos k)) (round binary64 false (2 ^ 48) 1) ≡ units k
 unfolding ofInt unitsOf
 scaled-down k h =
-    div-at binary64 (round binary64 false k 1) (round binary64 false (2 ^ 48) 1) k (2 ^ 48) 1 1 (lit< tt) (lit< tt) (whole-value k (lt-of-lt-of-le h (lit≤ tt))) (whole-value (2 ^ 48) (lit< tt))
+    let whole = whole-value k (lt-of-lt-of-le h (lit≤ tt)) in
+    let scale = whole-value (2 ^ 48) (lit< tt) in
+    div-at binary64 (round binary64 false k 1) (round binary64 false (2 ^ 48) 1) k (2 ^ 48) 1 1 (lit< tt) (lit< tt) whole scale
     ∙ ap₂ (round binary64 false) (mul-one k) (one-mul (2 ^ 48))

@@ -23,7 +23,8 @@ module _
     unfolding iterate pick
     one-call h a l = calls h a ∙ go (ltb (h + d) 2) (ltb→lt (h + d) 2) (nltb→le (h + d) 2)
       where
-        go : (b : Bool) → (T b → h + d < 2) → (T (not b) → 2 ≤ h + d) → pick b (at (h + d) a) (at (h + d - 2) (work a)) ≡ at ((h + d) % 2) (iterate ((h + d) / 2) work a)
+        go : (b : Bool) → (T b → h + d < 2) → (T (not b) → 2 ≤ h + d)
+            → pick b (at (h + d) a) (at (h + d - 2) (work a)) ≡ at ((h + d) % 2) (iterate ((h + d) / 2) work a)
         go true g n =
             let s : h + d < 2 = g tt in
             let e : (h + d) % 2 ≡ h + d = omega arith in
@@ -43,9 +44,10 @@ module _
         none : (h : ℕ) → h < 2 → (h ≡ (h + zero * d) % 2) × (0 ≡ (h + zero * d) / 2)
         none h l = let z : zero * d ≡ 0 = zero-mul d in (omega arith, omega arith)
     worked (suc n) h a l =
+        let joined = sym (iterate-add ((h + d) / 2) (((h + d) % 2 + n * d) / 2) work a) ∙ ap (λ (k : ℕ). iterate k work a) (all n .1) in
         ap (iterate n call) (one-call h a l)
         ∙ worked n ((h + d) % 2) (iterate ((h + d) / 2) work a) (mod-lt (h + d) (lit< tt))
-        ∙ ap₂ (λ (x : ℕ) (y : A). at x y) (all n .0) (sym (iterate-add ((h + d) / 2) (((h + d) % 2 + n * d) / 2) work a) ∙ ap (λ (k : ℕ). iterate k work a) (all n .1))
+        ∙ ap₂ (λ (x : ℕ) (y : A). at x y) (all n .0) joined
       where
         all : (n : ℕ) → (((h + d) % 2 + n * d) % 2 ≡ (h + suc n * d) % 2) × ((h + d) / 2 + ((h + d) % 2 + n * d) / 2 ≡ (h + suc n * d) / 2)
         all n = let z : suc n * d ≡ n * d + d = suc-mul n d in (omega arith, omega arith)

@@ -2,10 +2,9 @@
 use mathlib.Core.Path.{_≡_, refl, _∙_}
 use mathlib.Core.Bool.{Bool, true, false, not}
 use Prim.Native.Nat.{ℕ, zero, suc, _+_, _-_, _*_, _/_, _^_, _≤_, _<_}
-use native.Mathlib.Nat.{mod-lt, lt-of-lt-of-le}
+use native.Mathlib.Nat.{mod-lt}
 use native.Mathlib.Omega.{arith}
 use lib.Dec.{T, leb, nleb→lt, lit<}
-use lib.Pow.{pow-pos}
 use lib.Ieee.{Float, binary64, fits}
 use Rattle.ground.specs.Units.{unitsOf}
 use Rattle.ground.proofs.Same.{units-fit}
@@ -13,8 +12,8 @@ use Rattle.clocks.specs.declared.meter.Meter.{Meter}
 use Rattle.clocks.specs.Counter.{everyAt, tickBy, Kept}
 use Rattle.clocks.specs.Calls.{atSpeed, run, normals, doubles, times, K}
 use Rattle.clocks.specs.Metered.{Held, gained, metered, clocksOf}
-use Rattle.clocks.proofs.Working.{left, Room, tick-units}
-use Rattle.clocks.proofs.Conserved.{from-kept, every-units, room}
+use Rattle.clocks.proofs.Working.{left, Room, room-pos, tick-units}
+use Rattle.clocks.proofs.Conserved.{rest-lt, from-kept, every-units, room}
 
 -- the half-clocks of n calls at one speed
 pub gained-times : (d : Bool) (n : ℕ) → 2 * normals (times n (atSpeed d)) + doubles (times n (atSpeed d)) ≡ gained d n
@@ -29,9 +28,6 @@ gained-times false (suc n) =
     omega arith
 
 module _ (u M : ℕ) (r : Room u M) where
-  M-pos : 0 < M
-  M-pos = lt-of-lt-of-le (pow-pos u) (r .low)
-
   -- so many frames more, and the meter's clocks
   pub meter-counts : (m : Meter) (d : Bool) (n f : ℕ) → Held M m
       → run (unitsOf binary64 u M) (times n (atSpeed d)) (clocksOf u m f) ≡ clocksOf u (metered u M m d n .meter) (f + metered u M m d n .frames)
@@ -39,7 +35,7 @@ module _ (u M : ℕ) (r : Room u M) where
 
   -- a meter's ranges are kept
   pub metered-held : (m : Meter) (d : Bool) (n : ℕ) → Held M (metered u M m d n .meter)
-  metered-held m d n = record { half = mod-lt (m .half + gained d n) (lit< tt); rest = mod-lt (m .rest + (m .half + gained d n) / 2 * 2 ^ u) M-pos }
+  metered-held m d n = record { half = mod-lt (m .half + gained d n) (lit< tt); rest = mod-lt (m .rest + (m .half + gained d n) / 2 * 2 ^ u) (room-pos r) }
 
   -- the sample counter's range is kept by a working clock
   pub tick-kept : (x : Float) → Kept u M x → Kept u M (tickBy (unitsOf binary64 u M) x .counter)
@@ -47,11 +43,8 @@ module _ (u M : ℕ) (r : Room u M) where
       rw (k .is, tick-units u M (k .units) r (k .below))
       (go (leb M (k .units + 2 ^ u)) (nleb→lt M (k .units + 2 ^ u)))
     where
-      rest-lt : (n p : ℕ) → n < M → p ≤ M → n + p - M < M
-      rest-lt n p h l = omega arith
-
       go : (b : Bool) → (T (not b) → k .units + 2 ^ u < M) → Kept u M (left u M b (k .units + 2 ^ u) .counter)
-      go true l = record { units = k .units + 2 ^ u - M; below = rest-lt (k .units) (2 ^ u) (k .below) (r .low); is = refl }
+      go true l = record { units = k .units + 2 ^ u - M; below = rest-lt (k .units) (2 ^ u) M (k .below) (r .low); is = refl }
       go false l = record { units = k .units + 2 ^ u; below = l tt; is = refl }
 
 -- ---- at 44,100

@@ -18,7 +18,8 @@ eight P p0 p1 p2 p3 p4 p5 p6 p7 (suc (suc (suc (suc (suc (suc zero)))))) h = p6
 eight P p0 p1 p2 p3 p4 p5 p6 p7 (suc (suc (suc (suc (suc (suc (suc zero))))))) h = p7
 eight P p0 p1 p2 p3 p4 p5 p6 p7 (suc (suc (suc (suc (suc (suc (suc (suc n)))))))) h = absurd (omega arith)
 
-pub nine : (P : ℤ → Type 0) → P (negsuc 0) → P (pos 0) → P (pos 1) → P (pos 2) → P (pos 3) → P (pos 4) → P (pos 5) → P (pos 6) → P (pos 7) → (z : ℤ) → PositionHeld z → P z
+pub nine : (P : ℤ → Type 0) → P (negsuc 0) → P (pos 0) → P (pos 1) → P (pos 2) → P (pos 3) → P (pos 4) → P (pos 5) → P (pos 6) → P (pos 7)
+    → (z : ℤ) → PositionHeld z → P z
 nine P m p0 p1 p2 p3 p4 p5 p6 p7 (pos n) h = eight (λ (k : ℕ). P (pos k)) p0 p1 p2 p3 p4 p5 p6 p7 n h
 nine P m p0 p1 p2 p3 p4 p5 p6 p7 (negsuc zero) h = m
 nine P m p0 p1 p2 p3 p4 p5 p6 p7 (negsuc (suc n)) h = absurd (omega arith)

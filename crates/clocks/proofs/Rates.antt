@@ -3,7 +3,9 @@ use mathlib.Core.Path.{_≡_, refl, sym, ap, ap₂, _∙_, subst}
 use mathlib.Core.List.{List}
 use mathlib.Core.Bool.{false}
 use Prim.Native.Nat.{ℕ, suc, _+_, _-_, _*_, _/_, _^_, _≤_, _<_}
-use native.Mathlib.Nat.{le-trans, le-of-eq, le-antisymm, lt-of-lt-of-le, lt-of-not-le, not-le-of-lt, mul-one, one-mul, mul-comm, mul-assoc, mul-right-comm, mul-le-mul-right, mul-sub, add-mul, mul-le-mul-left, le-of-suc-le-suc, mul-lt-mul-of-pos-right, mul-pos, le-div-iff-mul-le, div-lt-iff-lt-mul, div-one, mod-one}
+use native.Mathlib.Nat.{le-trans, le-of-eq, le-antisymm, lt-of-lt-of-le, lt-of-not-le, not-le-of-lt, le-of-suc-le-suc}
+use native.Mathlib.Nat.{mul-one, one-mul, mul-comm, mul-assoc, mul-right-comm, mul-sub, add-mul, mul-pos}
+use native.Mathlib.Nat.{mul-le-mul-right, mul-le-mul-left, mul-lt-mul-of-pos-right, le-div-iff-mul-le, div-lt-iff-lt-mul, div-one, mod-one}
 use native.Mathlib.Omega.{arith}
 use lib.Dec.{lit≤, lit<}
 use lib.Pow.{pow-add, pow-pos, pow-mono, pow-lt}
@@ -35,7 +37,8 @@ dropped j z e = omega arith
 round-at : (a c j : ℕ) → 0 < c → 2 ^ (52 + j) * c ≤ a * 2 ^ 1074 → a * 2 ^ 1074 < 2 ^ suc (52 + j) * c
     → round binary64 false a c ≡ units binary64 false (closest (a * 2 ^ 1074) (c * 2 ^ j)) j
 round-at a c j C l h =
-    let d : drop 53 (a * 2 ^ 1074) c ≡ j = dropped j (size (a * 2 ^ 1074 / c)) (size-is (a * 2 ^ 1074 / c) (52 + j) (le-div-iff-mul-le C .1 l) (div-lt-iff-lt-mul C .1 h)) in
+    let digits = size-is (a * 2 ^ 1074 / c) (52 + j) (le-div-iff-mul-le C .1 l) (div-lt-iff-lt-mul C .1 h) in
+    let d : drop 53 (a * 2 ^ 1074) c ≡ j = dropped j (size (a * 2 ^ 1074 / c)) digits in
     round-is binary64 false a c
     ∙ ap (λ (z : ℕ). units binary64 false (closest (a * 2 ^ 1074) (c * 2 ^ z)) z) d
 
@@ -45,6 +48,14 @@ closest-one k = rw (div-one k, mod-one k)
 -- ---- powers of two
 pow-is : (m n : ℕ) → m ≡ n → 2 ^ m ≡ 2 ^ n
 pow-is m n h = ap (λ (x : ℕ). 2 ^ x) h
+
+-- 2 ^ n, by the sum of two exponents
+split : (n a b : ℕ) → n ≡ a + b → 2 ^ n ≡ 2 ^ a * 2 ^ b
+split n a b h = pow-is n (a + b) h ∙ pow-add 2 a b
+
+-- and with a rate between them
+split-by : (n a b r : ℕ) → n ≡ a + b → 2 ^ n * r ≡ 2 ^ a * r * 2 ^ b
+split-by n a b r h = ap (λ (x : ℕ). x * r) (split n a b h) ∙ mul-right-comm (2 ^ a) (2 ^ b) r
 
 -- 2 ^ a * 2 ^ b, by the sum of the exponents
 join : (a b c d : ℕ) → a + b ≡ c + d → 2 ^ a * 2 ^ b ≡ 2 ^ c * 2 ^ d
@@ -64,26 +75,29 @@ module _ (rate e : ℕ) (w : Exponent rate e) where
   rate-pos = first-pos rate (2 ^ suc e) (le-trans (lit≤ tt) (le-trans (w .hi) (le-of-eq (mul-comm (2 ^ suc e) rate))))
 
   few : e ≤ 20
-  few = lt-suc-of (λ (g : 21 ≤ e). not-le-of-lt (lt-of-lt-of-le (pow-lt {i = 20} {j = e} g) (le-trans (le-of-eq (sym (mul-one (2 ^ e)))) (mul-le-mul-left (2 ^ e) rate-pos))) (w .lo))
+  few =
+      let at-least : 2 ^ e ≤ 2 ^ e * rate = le-trans (le-of-eq (sym (mul-one (2 ^ e)))) (mul-le-mul-left (2 ^ e) rate-pos) in
+      lt-suc-of (λ (g : 21 ≤ e). not-le-of-lt (lt-of-lt-of-le (pow-lt {i = 20} {j = e} g) at-least) (w .lo))
 
   -- in units of 2 ^ -1074 the fraction 1048576 / rate has 1075 + e digits
   frac-lo : 2 ^ (52 + (1022 + e)) * rate ≤ 1048576 * 2 ^ 1074
   frac-lo =
-      le-trans (le-of-eq (ap (λ (x : ℕ). x * rate) (pow-is (52 + (1022 + e)) (e + 1074) (omega (arith, few)) ∙ pow-add 2 e 1074) ∙ mul-right-comm (2 ^ e) (2 ^ 1074) rate))
+      le-trans (le-of-eq (split-by (52 + (1022 + e)) e 1074 rate (omega (arith, few))))
       (mul-le-mul-right (2 ^ 1074) (w .lo))
 
   frac-hi : 1048576 * 2 ^ 1074 < 2 ^ suc (52 + (1022 + e)) * rate
   frac-hi =
       lt-of-lt-of-le (mul-lt-mul-of-pos-right (w .hi) (pow-pos 1074))
-      (le-of-eq (mul-right-comm (2 ^ suc e) rate (2 ^ 1074) ∙ ap (λ (x : ℕ). x * rate) (sym (pow-add 2 (suc e) 1074) ∙ pow-is (suc e + 1074) (suc (52 + (1022 + e))) (omega (arith, few)))))
+      (le-of-eq (sym (split-by (suc (52 + (1022 + e))) (suc e) 1074 rate (omega (arith, few)))))
 
   -- so N is K units, of 53 digits: 2 ^ e ≤ N < 2 ^ (e + 1), and e is N's own exponent
   pub K-lo : 2 ^ 52 ≤ KAt e rate
   K-lo =
       subst (λ (x : ℕ). x ≤ KAt e rate) (closest-one (2 ^ 52))
       (closest-mono (2 ^ 52) 1 (2 ^ (72 - e)) rate (lit< tt) rate-pos
-      (le-trans (le-of-eq (ap (λ (x : ℕ). x * rate) (pow-is 52 (e + (52 - e)) (omega (arith, few)) ∙ pow-add 2 e (52 - e)) ∙ mul-right-comm (2 ^ e) (2 ^ (52 - e)) rate))
-      (le-trans (mul-le-mul-right (2 ^ (52 - e)) (w .lo)) (le-of-eq (sym (pow-add 2 20 (52 - e)) ∙ pow-is (20 + (52 - e)) (72 - e) (omega (arith, few)) ∙ sym (mul-one (2 ^ (72 - e))))))))
+      (le-trans (le-of-eq (split-by 52 e (52 - e) rate (omega (arith, few))))
+      (le-trans (mul-le-mul-right (2 ^ (52 - e)) (w .lo))
+      (le-of-eq (sym (split (72 - e) 20 (52 - e) (omega (arith, few))) ∙ sym (mul-one (2 ^ (72 - e))))))))
 
   rate-le : rate ≤ 2 ^ (52 - e)
   rate-le = le-trans (le-trans (le-of-eq (sym (one-mul rate))) (mul-le-mul-right rate (pow-pos e))) (le-trans (w .lo) (pow-mono {i = 20} (omega (arith, few))))
@@ -94,9 +108,10 @@ module _ (rate e : ℕ) (w : Exponent rate e) where
 
   full : 2 ^ (72 - e) + 2 ^ (52 - e) ≤ 2 ^ 53 * rate
   full =
-      le-trans (le-of-eq (ap₂ (λ (x y : ℕ). x + y) (pow-is (72 - e) (20 + (52 - e)) (omega (arith, few)) ∙ pow-add 2 20 (52 - e)) (sym (one-mul (2 ^ (52 - e)))) ∙ sym (add-mul 1048576 1 (2 ^ (52 - e)))))
+      let high = split (72 - e) 20 (52 - e) (omega (arith, few)) in
+      le-trans (le-of-eq (ap₂ (λ (x y : ℕ). x + y) high (sym (one-mul (2 ^ (52 - e)))) ∙ sym (add-mul 1048576 1 (2 ^ (52 - e)))))
       (le-trans (mul-le-mul-right {m = 1048576 + 1} (2 ^ (52 - e)) (w .hi))
-      (le-of-eq (mul-right-comm (2 ^ suc e) rate (2 ^ (52 - e)) ∙ ap (λ (x : ℕ). x * rate) (sym (pow-add 2 (suc e) (52 - e)) ∙ pow-is (suc e + (52 - e)) 53 (omega (arith, few))))))
+      (le-of-eq (sym (split-by 53 (suc e) (52 - e) rate (omega (arith, few))))))
 
   pub K-hi : KAt e rate < 2 ^ 53
   K-hi =
@@ -114,12 +129,14 @@ module _ (rate e : ℕ) (w : Exponent rate e) where
   frac-kept : closest (1048576 * 2 ^ 1074) (rate * 2 ^ (1022 + e)) ≡ KAt e rate
   frac-kept =
       closest-same (1048576 * 2 ^ 1074) (rate * 2 ^ (1022 + e)) (2 ^ (72 - e)) rate (mul-pos rate-pos (pow-pos (1022 + e))) rate-pos
-      (ap (λ (x : ℕ). x * rate) (sym (join (72 - e) (1022 + e) 20 1074 (omega (arith, few)))) ∙ mul-assoc (2 ^ (72 - e)) (2 ^ (1022 + e)) rate ∙ ap (λ (x : ℕ). 2 ^ (72 - e) * x) (mul-comm (2 ^ (1022 + e)) rate))
+      (ap (λ (x : ℕ). x * rate) (sym (join (72 - e) (1022 + e) 20 1074 (omega (arith, few))))
+      ∙ mul-assoc (2 ^ (72 - e)) (2 ^ (1022 + e)) rate
+      ∙ ap (λ (x : ℕ). 2 ^ (72 - e) * x) (mul-comm (2 ^ (1022 + e)) rate))
 
   unit-kept : closest (KAt e rate * 2 ^ 1074) (2 ^ (52 - e) * 2 ^ (1022 + e)) ≡ KAt e rate
   unit-kept =
       closest-same (KAt e rate * 2 ^ 1074) (2 ^ (52 - e) * 2 ^ (1022 + e)) (KAt e rate) 1 (mul-pos (pow-pos (52 - e)) (pow-pos (1022 + e))) (lit< tt)
-      (mul-one (KAt e rate * 2 ^ 1074) ∙ ap (λ (x : ℕ). KAt e rate * x) (sym (sym (pow-add 2 (52 - e) (1022 + e)) ∙ pow-is (52 - e + (1022 + e)) 1074 (omega (arith, few)))))
+      (mul-one (KAt e rate * 2 ^ 1074) ∙ ap (λ (x : ℕ). KAt e rate * x) (split 1074 (52 - e) (1022 + e) (omega (arith, few))))
       ∙ closest-one (KAt e rate)
 
   -- N is K units
@@ -143,7 +160,9 @@ module _ (rate e : ℕ) (w : Exponent rate e) where
 pub divided : (rate : ℕ) → 0 < rate → rate ≤ 2 ^ 53 → div binary64 (ofInt binary64 (pos 1048576)) (ofInt binary64 (pos rate)) ≡ everyAt rate
 unfolding everyAt ofInt
 divided rate R h =
-    div-at binary64 (round binary64 false 1048576 1) (round binary64 false rate 1) 1048576 rate 1 1 (lit< tt) R (round-whole binary64 false 1048576 (lit≤ tt)) (round-whole binary64 false rate h)
+    let top = round-whole binary64 false 1048576 (lit≤ tt) in
+    let bottom = round-whole binary64 false rate h in
+    div-at binary64 (round binary64 false 1048576 1) (round binary64 false rate 1) 1048576 rate 1 1 (lit< tt) R top bottom
     ∙ round-same binary64 false (1048576 * 1) (1 * rate) 1048576 rate (mul-pos {m = 1} (lit< tt) R) R (ap (λ (x : ℕ). 1048576 * x) (sym (one-mul rate)))
 
 -- ---- e worked out
@@ -153,7 +172,8 @@ suc-pred z h = omega arith
 pub exponent-of : (rate : ℕ) → 0 < rate → rate ≤ 1048576 → Exponent rate (exponentOf rate)
 exponent-of rate R r =
     let q = 1048576 / rate in
-    let some : 0 < size q = lt-of-not-le (λ (g : size q ≤ 0). not-le-of-lt (lt-of-lt-of-le (size-lt q) (pow-mono g)) (le-div-iff-mul-le R .1 (le-trans (le-of-eq (one-mul rate)) r))) in
+    let one : 1 ≤ q = le-div-iff-mul-le R .1 (le-trans (le-of-eq (one-mul rate)) r) in
+    let some : 0 < size q = lt-of-not-le (λ (g : size q ≤ 0). not-le-of-lt (lt-of-lt-of-le (size-lt q) (pow-mono g)) one) in
     record {
       lo = le-div-iff-mul-le R .0 (size-reaches q (exponentOf rate) (le-of-eq (suc-pred (size q) some)));
       hi = div-lt-iff-lt-mul R .0 (subst (λ (x : ℕ). q < 2 ^ x) (sym (suc-pred (size q) some)) (size-lt q));

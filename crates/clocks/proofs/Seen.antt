@@ -3,26 +3,21 @@ use mathlib.Core.Path.{_≡_, refl, ap, _∙_}
 use mathlib.Core.List.{List, [], _∷_, _++_}
 use lib.Ieee.{Float}
 use Rattle.clocks.specs.Calls.{Call, Clocks, call, run, fresh, K, Conserved}
+use Rattle.clocks.specs.Rows.{steps, kinds}
 use Rattle.clocks.specs.Counter.{everyAt}
 use Rattle.clocks.proofs.Conserved.{conserved}
 
--- calls C on states S; `see` reads a state's half-clocks, sample counter and frames so far. Which kind a call is may turn on the state: a clock call is refused there or not.
+-- calls C on states S; `see` reads a state's half-clocks, sample counter and frames so far
 module _ {S C : Type 0} (see : S → Clocks) (kind : C → S → Call) (step : C → S → S) where
-  unfoldable pub steps : List C → S → S
-  steps [] s = s
-  steps (c ∷ cs) s = steps cs (step c s)
-
-  unfoldable pub kinds : List C → S → List Call
-  kinds [] s = []
-  kinds (c ∷ cs) s = kind c s ∷ kinds cs (step c s)
-
-  pub seen : (n : Float) → ((c : C) (s : S) → see (step c s) ≡ call n (kind c s) (see s)) → (cs : List C) (s : S) → see (steps cs s) ≡ run n (kinds cs s) (see s)
+  pub seen : (n : Float) → ((c : C) (s : S) → see (step c s) ≡ call n (kind c s) (see s)) → (cs : List C) (s : S)
+      → see (steps step cs s) ≡ run n (kinds kind step cs s) (see s)
   unfolding steps kinds run
   seen n law [] s = refl
-  seen n law (c ∷ cs) s = seen n law cs (step c s) ∙ ap (run n (kinds cs (step c s))) (law c s)
+  seen n law (c ∷ cs) s = seen n law cs (step c s) ∙ ap (run n (kinds kind step cs (step c s))) (law c s)
 
-  pub seen-conserved : ((c : C) (s : S) → see (step c s) ≡ call (everyAt 44100) (kind c s) (see s)) → (cs : List C) (s : S) → see s ≡ fresh → Conserved 48 K (kinds cs s) (see (steps cs s))
-  seen-conserved law cs s new = rw (seen (everyAt 44100) law cs s, new) (conserved (kinds cs s))
+  pub seen-conserved : ((c : C) (s : S) → see (step c s) ≡ call (everyAt 44100) (kind c s) (see s)) → (cs : List C) (s : S) → see s ≡ fresh
+      → Conserved 48 K (kinds kind step cs s) (see (steps step cs s))
+  seen-conserved law cs s new = rw (seen (everyAt 44100) law cs s, new) (conserved (kinds kind step cs s))
 
 -- one row of calls after another
 pub run-append : (n : Float) (cs ds : List Call) (m : Clocks) → run n (cs ++ ds) m ≡ run n ds (run n cs m)

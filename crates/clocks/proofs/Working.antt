@@ -3,7 +3,7 @@
 use mathlib.Core.Path.{_≡_, refl, sym, ap, _∙_}
 use mathlib.Core.Bool.{Bool, true, false}
 use Prim.Native.Nat.{ℕ, _+_, _-_, _^_, _≤_, _<_}
-use native.Mathlib.Nat.{mul-comm}
+use native.Mathlib.Nat.{mul-comm, lt-of-lt-of-le}
 use native.Mathlib.Omega.{arith}
 use lib.Dec.{T, leb, leb→le, lit<}
 use lib.Pow.{pow-pos}
@@ -34,6 +34,10 @@ pub record Room (u M : ℕ) : Type 0 where
   pub low : 2 ^ u ≤ M
   pub high : M + 2 ^ u ≤ 2 ^ 53
 
+-- so that N is not 0
+pub room-pos : {u M : ℕ} → Room u M → 0 < M
+room-pos {u} r = lt-of-lt-of-le (pow-pos u) (r .low)
+
 below : (k M p B : ℕ) → M + p ≤ B → k < M → k + p < B
 below k M p B h l = omega arith
 
@@ -42,9 +46,6 @@ self-below M p B h l = omega arith
 
 one-below : (M p B : ℕ) → p ≤ M → 0 < p → M + p ≤ B → p < B
 one-below M p B h l r = omega arith
-
-pos-of : (p M : ℕ) → 0 < p → p ≤ M → 0 < M
-pos-of p M h l = omega arith
 
 pos-sum : (k p : ℕ) → 0 < p → 0 < k + p
 pos-sum k p h = omega arith
@@ -60,10 +61,12 @@ tick-units u M k r h =
     let p-lt : p < 2 ^ 53 = one-below M p (2 ^ 53) (r .low) (pow-pos u) (r .high) in
     let added : add binary64 (unitsOf binary64 u k) f64One ≡ unitsOf binary64 u (k + p) =
     ap (λ (x : Float). add binary64 (unitsOf binary64 u k) x) (sym (one-units u)) ∙ add-units binary64 u (r .deep) k p k-lt p-lt in
+    let compared = le-units binary64 u (r .deep) M (k + p) M-lt t-lt (room-pos r) (pos-sum k p (pow-pos u)) in
     ap (λ (s : Float). taken (le n s) n s) added
-    ∙ ap (λ (b : Bool). taken b n (unitsOf binary64 u (k + p))) (le-units binary64 u (r .deep) M (k + p) M-lt t-lt (pos-of p M (pow-pos u) (r .low)) (pos-sum k p (pow-pos u)))
+    ∙ ap (λ (b : Bool). taken b n (unitsOf binary64 u (k + p))) compared
     ∙ go (leb M (k + p)) (leb→le M (k + p)) t-lt M-lt
   where
-    go : (b : Bool) → (T b → M ≤ k + 2 ^ u) → k + 2 ^ u < 2 ^ 53 → M < 2 ^ 53 → taken b (unitsOf binary64 u M) (unitsOf binary64 u (k + 2 ^ u)) ≡ left u M b (k + 2 ^ u)
+    go : (b : Bool) → (T b → M ≤ k + 2 ^ u) → k + 2 ^ u < 2 ^ 53 → M < 2 ^ 53
+        → taken b (unitsOf binary64 u M) (unitsOf binary64 u (k + 2 ^ u)) ≡ left u M b (k + 2 ^ u)
     go true g t-lt M-lt = ap (λ (x : Float). record { made = true; counter = x }) (sub-units binary64 u (r .deep) (k + 2 ^ u) M t-lt M-lt (g tt))
     go false g t-lt M-lt = refl

@@ -98,7 +98,7 @@ pub record Conserved (u M : ℕ) (cs : List Call) (m : Clocks) : Type 0 where
   pub rest : HasValue (m .counter) false (workingClocks cs * 2 ^ u - m .frames * M) (2 ^ u)
   pub half : m .half ≡ doubles cs % 2
 
--- n calls of one kind
-unfoldable pub times : ℕ → Call → List Call
+-- the same call n times
+unfoldable pub times : {C : Type 0} → ℕ → C → List C
 times zero c = []
 times (suc n) c = c ∷ times n c

@@ -3,9 +3,12 @@ use mathlib.Core.Path.{_≡_}
 use mathlib.Core.Bool.{Bool, true, false}
 use mathlib.Core.List.{List, [], _∷_}
 use Prim.Native.Nat.{ℕ, _+_, _*_}
-use lib.Ieee.{binary32, toBits}
-use Rattle.clocks.specs.Counter.{everyAt}
-use Rattle.clocks.specs.Calls.{normal, run, fresh, times}
+use lib.Ieee.{Float, binary32, ofBits, toBits}
+use Rattle.clocks.specs.Calls.{times}
+use Rattle.clocks.specs.Rows.{steps}
+use Rattle.frame.specs.Buffers.{Buffers, five}
+use Rattle.apu_clock.specs.Uses.{clock, step}
+use Rattle.apu_clock.specs.Demand3.{startOf}
 use Rattle.frame.specs.Converter as converter
 use Rattle.frame.specs.Mixing.{sideOf}
 use Rattle.apu.specs.Start.{skipped}
@@ -35,9 +38,24 @@ pub data AllHold : List Row → Type 0 where
 
 -- ---- what the examples speak of
 
--- 1 to 3: the frames that n working clocks make
-abbrev pub framesAfter : ℕ → ℕ
-framesAfter n = run (everyAt 44100) (times n normal) fresh .frames
+-- 1 to 3: the frames that a unit of either constructor has made after n clock calls at normal speed, a working clock each, with room for a frame in each buffer
+abbrev two : List Float
+two = ofBits binary32 0 ∷ ofBits binary32 0 ∷ []
+
+abbrev pub lent : Buffers
+lent = five two two two two two
+
+abbrev pub framesAfter : Bool → Bool → ℕ → ℕ
+framesAfter skip dmg n = steps step (times n (clock false 0 0 lent)) (startOf skip dmg) .frames
+
+-- the same of both constructors and both models
+abbrev pub fourRows : ℕ → ℕ → ℕ → List Row → List Row
+fourRows number n said rows =
+    row number (framesAfter false false n) said
+    ∷ row number (framesAfter false true n) said
+    ∷ row number (framesAfter true false n) said
+    ∷ row number (framesAfter true true n) said
+    ∷ rows
 
 -- 4: what a unit of `new_skip_boot_rom`, on DMG or not, reads at an address
 abbrev booted : Bool → ℕ → ℕ
@@ -77,17 +95,17 @@ sample output volume = toBits binary32 (sideOf (converter.stepped converter.fres
 abbrev pub marked : List Row
 marked =
     -- 1. "23 working clocks, no frame; 24, one; 47, one; 48, two."
-    row 1 (framesAfter 23) 0
-    ∷ row 1 (framesAfter 24) 1
-    ∷ row 1 (framesAfter 47) 1
-    ∷ row 1 (framesAfter 48) 2
+    fourRows 1 23 0
+    (fourRows 1 24 1
+    (fourRows 1 47 1
+    (fourRows 1 48 2
     -- 2. "262,144: 11,024 frames; 262,145: 11,025."
-    ∷ row 2 (framesAfter 262144) 11024
-    ∷ row 2 (framesAfter 262145) 11025
+    (fourRows 2 262144 11024
+    (fourRows 2 262145 11025
     -- 3. "1,048,576: 44,099."
-    ∷ row 3 (framesAfter 1048576) 44099
+    (fourRows 3 1048576 44099
     -- 4. "`new_skip_boot_rom`: FF11 BF, FF12 F3, FF24 77, FF25 F3, FF26 F1."
-    ∷ row 4 (booted true 0xFF11) 0xBF
+    (row 4 (booted true 0xFF11) 0xBF
     ∷ row 4 (booted true 0xFF12) 0xF3
     ∷ row 4 (booted true 0xFF24) 0x77
     ∷ row 4 (booted true 0xFF25) 0xF3
@@ -120,4 +138,4 @@ marked =
     ∷ row 9 (ram 31) 0x1011_1213_1415_1617_1819_1A1B_1C1D_1E1F
     -- 10. "Output 15, capacitor 0, volume 7: channel sample 3E4CCCCD."
     ∷ row 10 (sample 15 7) 0x3E4C_CCCD
-    ∷ []
+    ∷ [])))))))

@@ -33,20 +33,22 @@ unfolding ofBits
 f8-value = (refl, refl)
 
 -- ---- a rounded fraction a / c is within what a fraction b / d above it rounds to
-lands-within : (x : Float) (s : Bool) (a c b d k : ℕ) → x ≡ round binary32 s a c → 0 < c → 0 < d → a * d ≤ b * c → grid binary32 b d ≤ k → k ≤ unitsOfOne → Within k x
+lands-within : (x : Float) (s : Bool) (a c b d k : ℕ) → x ≡ round binary32 s a c → 0 < c → 0 < d → a * d ≤ b * c
+    → grid binary32 b d ≤ k → k ≤ unitsOfOne → Within k x
 lands-within x s a c b d k e C D h g K =
     let l : grid binary32 a c ≤ k = le-trans (grid-mono binary32 a c b d C D h) g in
     sized k x s (grid binary32 a c) (lands x s a c e (le-trans l K)) l
 
 -- times and by a whole number n
-mul-within : (x y : Float) (j n k : ℕ) → HasValue y false n 1 → Within j x → grid binary32 (j * n) (unitsOfOne * 1) ≤ k → k ≤ unitsOfOne → Within k (mul binary32 x y)
+mul-within : (x y : Float) (j n k : ℕ) → HasValue y false n 1 → Within j x
+    → grid binary32 (j * n) (unitsOfOne * 1) ≤ k → k ≤ unitsOfOne → Within k (mul binary32 x y)
 mul-within x y j n k v w g K =
     lands-within (mul binary32 x y) (unlike (sign x) false) (w .units * n) (unitsOfOne * 1) (j * n) (unitsOfOne * 1) k
     (mul-is binary32 x y (sign x) false (w .units) unitsOfOne n 1 (pow-pos 149) (lit< tt) (signed x (w .units) unitsOfOne (w .is)) v)
     (pow-pos 149) (pow-pos 149) (mul-le-mul-right (unitsOfOne * 1) (mul-le-mul-right n (w .most))) g K
 
-div-within : (x y : Float) (j n k : ℕ) → HasValue y false n 1 → 0 < n → 0 < unitsOfOne * n → Within j x → grid binary32 (j * 1) (unitsOfOne * n) ≤ k → k ≤ unitsOfOne
-    → Within k (div binary32 x y)
+div-within : (x y : Float) (j n k : ℕ) → HasValue y false n 1 → 0 < n → 0 < unitsOfOne * n → Within j x
+    → grid binary32 (j * 1) (unitsOfOne * n) ≤ k → k ≤ unitsOfOne → Within k (div binary32 x y)
 div-within x y j n k v N P w g K =
     lands-within (div binary32 x y) (unlike (sign x) false) (w .units * 1) (unitsOfOne * n) (j * 1) (unitsOfOne * n) k
     (div-is binary32 x y (sign x) false (w .units) unitsOfOne n 1 (pow-pos 149) N (signed x (w .units) unitsOfOne (w .is)) v)
@@ -59,7 +61,9 @@ sum-within s t a b j l k A B g K =
     either (Bool·beq s t) (part s (a + b) (omega arith)) (either (ltb a b) (part t (b - a) (omega arith)) (part (s && ltb b a) (a - b) (omega arith)))
   where
     part : (r : Bool) (n : ℕ) → n ≤ j + l → Within k (round binary32 r n unitsOfOne)
-    part r n h = lands-within (round binary32 r n unitsOfOne) r n unitsOfOne (j + l) unitsOfOne k refl (pow-pos 149) (pow-pos 149) (mul-le-mul-right unitsOfOne h) g K
+    part r n h =
+        lands-within (round binary32 r n unitsOfOne) r n unitsOfOne (j + l) unitsOfOne k refl (pow-pos 149) (pow-pos 149)
+        (mul-le-mul-right unitsOfOne h) g K
 
     either : (r : Bool) {x y : Float} → Within k x → Within k y → Within k (cond r x y)
     either true v w = v
@@ -67,8 +71,10 @@ sum-within s t a b j l k A B g K =
 
 add-within : (x y : Float) (j l k : ℕ) → Within j x → Within l y → grid binary32 (j + l) unitsOfOne ≤ k → k ≤ unitsOfOne → Within k (add binary32 x y)
 add-within x y j l k v w g K =
+    let x-value = signed x (v .units) unitsOfOne (v .is) in
+    let y-value = signed y (w .units) unitsOfOne (w .is) in
     subst (λ (z : Float). Within k z)
-    (sym (add-is binary32 x y (sign x) (sign y) (v .units) (w .units) unitsOfOne (pow-pos 149) (signed x (v .units) unitsOfOne (v .is)) (signed y (w .units) unitsOfOne (w .is))))
+    (sym (add-is binary32 x y (sign x) (sign y) (v .units) (w .units) unitsOfOne (pow-pos 149) x-value y-value))
     (sum-within (sign x) (sign y) (v .units) (w .units) j l k (v .most) (w .most) g K)
 
 -- ---- a channel's number: an eighth, times 8 at most, and a fifth
@@ -101,9 +107,10 @@ side-within x v on h w =
     chosen : (on : Bool) → Within unitsOfOne (cond on (mul binary32 (div binary32 x f8) loud) f0)
     chosen true =
         let most : v + 1 ≤ 8 = omega arith in
+        let at-most-eight = grid-le binary32 (2 ^ 146 * (v + 1)) (2 ^ 146 * 8) (unitsOfOne * 1) (pow-pos 149) (mul-le-mul-left (2 ^ 146) most) in
         mul-within (div binary32 x f8) loud (2 ^ 146) (v + 1) unitsOfOne (loud-value v h)
         (div-within x f8 unitsOfOne 8 (2 ^ 146) f8-value (lit< tt) (lit< tt) w eighth (lit≤ tt))
-        (le-trans (grid-le binary32 (2 ^ 146 * (v + 1)) (2 ^ 146 * 8) (unitsOfOne * 1) (pow-pos 149) (mul-le-mul-left (2 ^ 146) most)) eight) (le-refl unitsOfOne)
+        (le-trans at-most-eight eight) (le-refl unitsOfOne)
     chosen false = silent
 
 -- ---- a sum of four: 0.2 + 0.2 is within 0.5, with 0.2 more within 0.75, and with 0.2 more within 1

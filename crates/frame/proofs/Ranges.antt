@@ -9,7 +9,7 @@ use native.Mathlib.Omega.{arith}
 use lib.Dec.{T, leb, ltb, leb→le, ltb→lt, nltb→le, lit<, lit≤}
 use lib.Pow.{pow-pos}
 use lib.IntN.{pos}
-use lib.Ieee.{Float, nan, inf, fin, binary32, size, unlike, round, mul, ofInt, ofBits}
+use lib.Ieee.{Float, nan, inf, fin, binary32, size, unlike, round, sum, sub, mul, ofInt, ofBits}
 use lib.Ieee.Digits.{Equals}
 use lib.Ieee.Fits.{and-l, and-r, sub-fits}
 use lib.Ieee.Bits.{ofBits-fits}
@@ -104,9 +104,13 @@ snapped : (x : Float) (s : Bool) (a : ℕ) → x ≡ round binary32 s a unitsOfO
 unfolding snap
 snapped x s a e h = lands x s a unitsOfOne e h
 
-kept : (x : Float) (s : Bool) (g : ℕ) → HasValue x s g unitsOfOne → scaled g ≤ unitsOfOne → HasValue (mul binary32 x keep) (unlike s false) (scaled g) unitsOfOne
+kept : (x : Float) (s : Bool) (g : ℕ) → HasValue x s g unitsOfOne → scaled g ≤ unitsOfOne
+    → HasValue (mul binary32 x keep) (unlike s false) (scaled g) unitsOfOne
 unfolding scaled
-kept x s g v h = lands (mul binary32 x keep) (unlike s false) (g * 16710107) (unitsOfOne * 2 ^ 24) (mul-is binary32 x keep s false g unitsOfOne 16710107 (2 ^ 24) (pow-pos 149) (pow-pos 24) v keep-value) h
+kept x s g v h =
+    lands (mul binary32 x keep) (unlike s false) (g * 16710107) (unitsOfOne * 2 ^ 24)
+    (mul-is binary32 x keep s false g unitsOfOne 16710107 (2 ^ 24) (pow-pos 149) (pow-pos 24) v keep-value)
+    h
 
 -- a small whole number as an f32
 pub int-value : (n : ℕ) → n ≤ 15 → HasValue (ofInt binary32 (pos n)) false n 1
@@ -117,7 +121,8 @@ input-value : (o : ℕ) → o ≤ 15 → HasValue (inOf o) false (input o) units
 unfolding input
 input-value o h =
     lands (inOf o) false o 15
-    (div-is binary32 (ofInt binary32 (pos o)) f15 false false o 1 15 1 (lit< tt) (lit< tt) (int-value o h) f15-value ∙ ap (λ (z : ℕ). round binary32 false z 15) (mul-one o))
+    (div-is binary32 (ofInt binary32 (pos o)) f15 false false o 1 15 1 (lit< tt) (lit< tt) (int-value o h) f15-value
+    ∙ ap (λ (z : ℕ). round binary32 false z 15) (mul-one o))
     (whole o h)
 
 -- ---- sizes alone
@@ -161,16 +166,20 @@ module _ (c : Float) (C : Charge c) (o : ℕ) (O : o ≤ 15) where
   down-most : snap (C .units - input o) ≤ snap (unitsOfOne - input o)
   down-most = snap-le (C .units - input o) (unitsOfOne - input o) (fewer (C .units) unitsOfOne (input o) (C .most))
 
+  -- the input less a float of n units
+  less : (y : Float) (s : Bool) (n : ℕ) → HasValue y s n unitsOfOne → sub binary32 (inOf o) y ≡ sum binary32 false (input o) (not s) n unitsOfOne
+  less y s n v = sub-is binary32 (inOf o) y false s (input o) n unitsOfOne (pow-pos 149) (input-value o O) v
+
   out-up : C .units ≤ input o → HasValue (outOf c o) false (snap (input o - C .units)) unitsOfOne
   out-up h =
       snapped (outOf c o) false (input o - C .units)
-      (sub-is binary32 (inOf o) c false false (input o) (C .units) unitsOfOne (pow-pos 149) (input-value o O) (C .is) ∙ up-sum binary32 (input o) (C .units) unitsOfOne h)
+      (less c false (C .units) (C .is) ∙ up-sum binary32 (input o) (C .units) unitsOfOne h)
       (le-trans up-most (rises o O))
 
   out-down : input o < C .units → HasValue (outOf c o) true (snap (C .units - input o)) unitsOfOne
   out-down h =
       snapped (outOf c o) true (C .units - input o)
-      (sub-is binary32 (inOf o) c false false (input o) (C .units) unitsOfOne (pow-pos 149) (input-value o O) (C .is) ∙ down-sum binary32 (input o) (C .units) unitsOfOne h)
+      (less c false (C .units) (C .is) ∙ down-sum binary32 (input o) (C .units) unitsOfOne h)
       (le-trans down-most (falls o O))
 
   out-within : Within unitsOfOne (outOf c o)
@@ -188,7 +197,7 @@ module _ (c : Float) (C : Charge c) (o : ℕ) (O : o ≤ 15) where
       let W : HasValue (mul binary32 (outOf c o) keep) false p unitsOfOne = kept (outOf c o) false g (out-up h) (le-trans P (whole o O)) in
       record {
         units = snap (input o - p);
-        is = snapped (charged c o) false (input o - p) (sub-is binary32 (inOf o) (mul binary32 (outOf c o) keep) false false (input o) p unitsOfOne (pow-pos 149) (input-value o O) W ∙ up-sum binary32 (input o) p unitsOfOne P) most;
+        is = snapped (charged c o) false (input o - p) (less (mul binary32 (outOf c o) keep) false p W ∙ up-sum binary32 (input o) p unitsOfOne P) most;
         most = most;
       }
 
@@ -201,7 +210,7 @@ module _ (c : Float) (C : Charge c) (o : ℕ) (O : o ≤ 15) where
       let W : HasValue (mul binary32 (outOf c o) keep) true p unitsOfOne = kept (outOf c o) true g (out-down h) (le-trans P (gains o O)) in
       record {
         units = snap (input o + p);
-        is = snapped (charged c o) false (input o + p) (sub-is binary32 (inOf o) (mul binary32 (outOf c o) keep) false true (input o) p unitsOfOne (pow-pos 149) (input-value o O) W ∙ plus-sum binary32 (input o) p unitsOfOne) most;
+        is = snapped (charged c o) false (input o + p) (less (mul binary32 (outOf c o) keep) true p W ∙ plus-sum binary32 (input o) p unitsOfOne) most;
         most = most;
       }
 
@@ -216,7 +225,11 @@ fresh-held = record { single = ofBits-fits binary32 0; charge = record { units =
 pub stepped-held : (d : Converter) (o : ℕ) (muted : Bool) → o ≤ 15 → Held d → Held (stepped d o muted .converter)
 unfolding stepped
 stepped-held d o true h C = C
-stepped-held d o false h C = record { single = sub-fits binary32 (inOf o) (mul binary32 (outOf (d .capacitor) o) keep); charge = next (d .capacitor) (C .charge) o h }
+stepped-held d o false h C =
+    record {
+      single = sub-fits binary32 (inOf o) (mul binary32 (outOf (d .capacitor) o) keep);
+      charge = next (d .capacitor) (C .charge) o h;
+    }
 
 pub stepped-within : (d : Converter) (o : ℕ) (muted : Bool) → o ≤ 15 → Held d → Within unitsOfOne (stepped d o muted .«dac_out»)
 unfolding stepped

@@ -33,8 +33,10 @@ same-value f (inf t) y s a c C p q v w = absurd v
 same-value f (fin t m e) nan s a c C p q v w = absurd w
 same-value f (fin t m e) (inf r) s a c C p q v w = absurd w
 same-value f (fin t m e) (fin r n d) s a c C p q v w =
+    let sizes = bits-same f t m e n d (cross (m * up e) (n * up d) a c (down e) (down d) C (v .1) (w .1)) in
+    let signs = ap (λ (z : Bool). toBits f (fin z n d)) (v .0 ∙ sym (w .0)) in
     sym (ofBits-toBits f (fin t m e) p)
-    ∙ ap (ofBits f) (bits-same f t m e n d (cross (m * up e) (n * up d) a c (down e) (down d) C (v .1) (w .1)) ∙ ap (λ (z : Bool). toBits f (fin z n d)) (v .0 ∙ sym (w .0)))
+    ∙ ap (ofBits f) (sizes ∙ signs)
     ∙ ofBits-toBits f (fin r n d) q
 
 pub units-fit : (f : Format) (u k : ℕ) → T (fits f (unitsOf f u k))

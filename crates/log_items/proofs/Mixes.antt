@@ -1,7 +1,8 @@
 -- A frame's bytes from its ten numbers: one run of stores, and the same as from five buffers of two. Assumes nothing.
-use Prim.Native.Nat.{ℕ, suc, _+_}
+use Prim.Native.Nat.{ℕ, _+_}
 use mathlib.Core.Path.{_≡_, refl, sym, ap, ap₂, _∙_}
 use mathlib.Core.List.{List, [], _∷_, _++_}
+use native.Mathlib.Numerals.{add-one}
 use native.Mathlib.Omega.{arith}
 use lib.ListN.{set}
 use lib.Seq.{sets}
@@ -18,9 +19,6 @@ eight-more l i j s rest e = ap (λ (k : ℕ). sets (sets l i (sidesBytes s)) k r
 
 next : (at k : ℕ) → at + k + 8 ≡ at + (k + 8)
 next at k = omega arith
-
-after : (at : ℕ) → at + 1 ≡ suc at
-after at = omega arith
 
 -- one store and five runs, each behind the one before
 pub mix-bytes : (l x₁ x₂ x₃ x₄ x₅ : List ℕ) (at : ℕ) (m : Mix)
@@ -42,10 +40,11 @@ mix-bytes l x₁ x₂ x₃ x₄ x₅ at m e₁ e₂ e₃ e₄ e₅ =
     ∙ eight-more x₁ (at + 9) (at + 17) (m .pulse2) third (next at 9)
     ∙ ap (λ (x : List ℕ). sets x (at + 9) second) e₁
     ∙ eight-more (set l at 70) (at + 1) (at + 9) (m .pulse1) second (next at 1)
-    ∙ ap (λ (k : ℕ). sets (set l at 70) k first) (after at)
+    ∙ ap (λ (k : ℕ). sets (set l at 70) k first) (add-one at)
 
 -- two words in a row
-pub two-words : (l x₁ x₂ : List ℕ) (at a b p q : ℕ) → x₁ ≡ sets l at (be32 a) → x₂ ≡ sets x₁ (at + 4) (be32 b) → a ≡ p → b ≡ q → x₂ ≡ sets l at (be32 p ++ be32 q)
+pub two-words : (l x₁ x₂ : List ℕ) (at a b p q : ℕ) → x₁ ≡ sets l at (be32 a) → x₂ ≡ sets x₁ (at + 4) (be32 b) → a ≡ p → b ≡ q
+    → x₂ ≡ sets l at (be32 p ++ be32 q)
 two-words l x₁ x₂ at a b p q e₁ e₂ f g =
     e₂
     ∙ ap (λ (x : List ℕ). sets x (at + 4) (be32 b)) e₁

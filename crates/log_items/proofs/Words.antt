@@ -1,7 +1,8 @@
 -- A word stored low byte first, after its bytes were turned round, is the word stored high byte first. Assumes nothing.
 use Prim.Native.Nat.{ℕ, _+_, _*_, _/_, _%_, _<_}
-use mathlib.Core.Path.{_≡_, ap}
+use mathlib.Core.Path.{_≡_, ap, _∙_}
 use mathlib.Core.List.{List, [], _∷_}
+use native.Mathlib.Nat.{add-mul-div-right, div-eq-of-lt, zero-add}
 use native.Mathlib.Omega.{arith}
 use native.Mathlib.Numerals.{add-one, add-two, add-three}
 use lib.ListN.{set}
@@ -16,23 +17,19 @@ lowFirst t = t % 256 ∷ t / 0x100 % 256 ∷ t / 0x1_0000 % 256 ∷ t / 0x100_00
 low-of : (a k t : ℕ) → a < 256 → t ≡ a + k * 256 → t % 256 ≡ a
 low-of a k t A e = omega arith
 
--- one, two or three bytes off
-less-one : (a k t : ℕ) → a < 0x100 → t ≡ a + k * 0x100 → t / 0x100 ≡ k
-less-one a k t A e = omega arith
-
-less-two : (a k t : ℕ) → a < 0x1_0000 → t ≡ a + k * 0x1_0000 → t / 0x1_0000 ≡ k
-less-two a k t A e = omega arith
-
-less-three : (a k t : ℕ) → a < 0x100_0000 → t ≡ a + k * 0x100_0000 → t / 0x100_0000 ≡ k
-less-three a k t A e = omega arith
+-- what stands above the low bytes, m being 0x100 for one of them, 0x1_0000 for two, 0x100_0000 for three
+above : (m a k t : ℕ) → a < m → t ≡ a + k * m → t / m ≡ k
+above m a k t A e =
+    let z : 0 < m = omega arith in
+    ap (λ (x : ℕ). x / m) e ∙ add-mul-div-right a k z ∙ ap (λ (x : ℕ). x + k) (div-eq-of-lt A) ∙ zero-add k
 
 -- they are those that it is made of
 made-of : (a b c d t : ℕ) → a < 256 → b < 256 → c < 256 → d < 256 → t ≡ a + b * 0x100 + c * 0x1_0000 + d * 0x100_0000 → lowFirst t ≡ a ∷ b ∷ c ∷ d ∷ []
 made-of a b c d t A B C D e =
     let first : t % 256 ≡ a = low-of a (b + c * 0x100 + d * 0x1_0000) t A (omega arith) in
-    let second : t / 0x100 ≡ b + (c + d * 256) * 256 = less-one a (b + (c + d * 256) * 256) t A (omega arith) in
-    let third : t / 0x1_0000 ≡ c + d * 256 = less-two (a + b * 256) (c + d * 256) t (omega arith) (omega arith) in
-    let fourth : t / 0x100_0000 ≡ d = less-three (a + b * 256 + c * 0x1_0000) d t (omega arith) (omega arith) in
+    let second : t / 0x100 ≡ b + (c + d * 256) * 256 = above 0x100 a (b + (c + d * 256) * 256) t A (omega arith) in
+    let third : t / 0x1_0000 ≡ c + d * 256 = above 0x1_0000 (a + b * 256) (c + d * 256) t (omega arith) (omega arith) in
+    let fourth : t / 0x100_0000 ≡ d = above 0x100_0000 (a + b * 256 + c * 0x1_0000) d t (omega arith) (omega arith) in
     rw (first, low-of b (c + d * 256) (t / 0x100) B second, low-of c d (t / 0x1_0000) C third, fourth)
 
 pub turned-bytes : (t word : ℕ) → word < 0x1_0000_0000 → t ≡ swappedOf word → lowFirst t ≡ be32 word

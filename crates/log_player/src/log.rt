@@ -1,8 +1,8 @@
 // A whole log, played into a lent slice.
 ghost use mathlib.Core.Path.{_≡_};
 ghost use lib.ListN.{length};
-ghost use Rattle.log_scan.specs.Answers.{outAfter};
-ghost use Rattle.log_player.specs.Logs.{bytesOfLog, answerOf};
+ghost use Rattle.log_scan.specs.Answers.{refusalOf, returnedOf, outAfter};
+ghost use Rattle.log_player.specs.Logs.{bytesOfLog, answerOf, refusedLog, returnedLog};
 use crate::play::play_list;
 use crate::play::start;
 use apu_run::calls::Play;
@@ -15,6 +15,7 @@ use log_scan::answer::within;
 pub fn play_log(log: &[u8], out: &mut [u8]) -> LogAnswer
     ensures { λ r. ⌜ r ≡ answerOf (now (log .entry)) (length (now (out .entry))) ⌝ }
     ensures { λ r. ⌜ now (out .exit) ≡ outAfter r (bytesOfLog (now (log .entry))) (now (out .entry)) ⌝ }
+    ensures { λ r. ⌜ (refusalOf r ≡ refusedLog (now (log .entry)) (length (now (out .entry)))) × (returnedOf r ≡ returnedLog (now (log .entry))) ⌝ }
 {
     let answer = within(scan(log), out.len());
     if is_done(answer) {

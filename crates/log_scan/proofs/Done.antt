@@ -34,9 +34,9 @@ never m n e = let f : _≡_ {A = ℕ} 0 1 = cc in omega arith
 abbrev Says : Type 0 → LogAnswer → Type 0
 Says P a = isDone a ≡ true → P
 
-pub scanned-long : (n : ℕ) (s : List ℕ) → isDone (scannedAs n s) ≡ true → 2 ≤ length s
+pub scanned-long : (n f : ℕ) (s : List ℕ) → isDone (scannedAs n f s) ≡ true → 2 ≤ length s
 unfolding scannedAs
-scanned-long n s =
+scanned-long n f s =
     pick-holds (Says (2 ≤ length s)) _ _ _ (λ _ d. never _ _ d)
     (λ _. pick-holds (Says (2 ≤ length s)) _ _ _ (λ _ d. never _ _ d) (λ e d. start-long s e))
 
@@ -59,19 +59,19 @@ module _ (room : ℕ) where
       go true e = cc
       go false e = refl
 
-  module _ (n : ℕ) (s : List ℕ) where
-    pub done-long : isDone (withinRoom room (scannedAs n s)) ≡ true → 2 ≤ length s
-    done-long d = scanned-long n s (scanned (scannedAs n s) d)
+  module _ (n f : ℕ) (s : List ℕ) where
+    pub done-long : isDone (withinRoom room (scannedAs n f s)) ≡ true → 2 ≤ length s
+    done-long d = scanned-long n f s (scanned (scannedAs n f s) d)
 
     abbrev Fits : LogAnswer → Type 0
     Fits a = isDone (withinRoom room a) ≡ true → n ≤ room
 
-    marked : (m : Mark) → Fits (orWrong m (doneAs n (summed (listed s))))
+    marked : (m : Mark) → Fits (orWrong m (doneAs n f (summed (listed s))))
     unfolding withinRoom
     marked Clear d = fits n _ _ _ d
     marked (At p) d = never _ _ d
 
-    pub done-fits : Fits (scannedAs n s)
+    pub done-fits : Fits (scannedAs n f s)
     unfolding scannedAs withinRoom
     done-fits =
         pick-holds Fits _ _ _ (λ _ d. never _ _ d)

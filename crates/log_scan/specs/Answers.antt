@@ -43,36 +43,71 @@ isDone BadStart = false
 isDone (WrongRecord place) = false
 isDone (TooShort needed) = false
 
+-- ---- what each refusal asks of a log's bytes
+
+-- 3: "log longer than 65,536 bytes"
+abbrev pub tooLong : List ℕ → Bool
+tooLong s = ltb 65536 (length s)
+
 -- 4: "log under 2 bytes, version not 1, or start byte above 3"
 unfoldable pub badStart : List ℕ → Bool
 badStart s = pick (ltb (length s) 2) true (not (eqb (getD s 0 0) 1) || ltb 3 (getD s 1 0))
+
+-- 5: "a wrong record": whether there is one, and "place of its first length byte"
+abbrev pub isPlace : Mark → Bool
+isPlace Clear = false
+isPlace (At place) = true
+
+abbrev pub placeIn : Mark → ℕ
+placeIn Clear = 0
+placeIn (At place) = place
+
+abbrev pub hasWrong : List ℕ → Bool
+hasWrong s = isPlace (wrongIn (recordsFrom s 2))
+
+abbrev pub wrongPlace : List ℕ → ℕ
+wrongPlace s = placeIn (wrongIn (recordsFrom s 2))
+
+-- the refusal of a log where there is room enough, and its number returned; without one, the bytes that it makes
+unfoldable pub refusedFor : List ℕ → ℕ
+refusedFor s = pick (tooLong s) 3 (pick (badStart s) 4 (pick (hasWrong s) 5 0))
+
+unfoldable pub returnedFor : ℕ → List ℕ → ℕ
+returnedFor written s = pick (tooLong s) 0 (pick (badStart s) 0 (pick (hasWrong s) (wrongPlace s) written))
+
+-- "3 to 6 are tried in that order"; 6: "output shorter than needed", which returns the bytes needed
+unfoldable pub refusedWithin : ℕ → ℕ → List ℕ → ℕ
+refusedWithin room needed s = pick (tooLong s) 3 (pick (badStart s) 4 (pick (hasWrong s) 5 (pick (ltb room needed) 6 0)))
+
+-- ---- what a log is answered
 
 -- the bytes that playing makes: 41 for a frame ("hex 46 and ten f32 patterns"), and those of reads
 abbrev pub bytesBy : Sums → ℕ
 bytesBy sums = framesOf (sums .halves) * 41 + sums .«read_bytes»
 
 -- "The answer carries bytes written, frames, and the number of clock calls that the records asked for", and the records
-abbrev pub doneAs : ℕ → Sums → LogAnswer
-doneAs written sums = Done written (framesOf (sums .halves)) (sums .calls) (sums .records)
+abbrev pub doneAs : ℕ → ℕ → Sums → LogAnswer
+doneAs written frames sums = Done written frames (sums .calls) (sums .records)
 
+-- with bytes and frames by the formula
 abbrev pub doneBy : Sums → LogAnswer
-doneBy sums = doneAs (bytesBy sums) sums
+doneBy sums = doneAs (bytesBy sums) (framesOf (sums .halves)) sums
 
 -- 5: "a wrong record", or what is said of good ones
 abbrev pub orWrong : Mark → LogAnswer → LogAnswer
 orWrong Clear a = a
 orWrong (At place) a = WrongRecord place
 
--- "3 to 6 are tried in that order": 3 to 5 of them, of a log whose output is `written` bytes; 3: "log longer than 65,536 bytes"
-unfoldable pub scannedAs : ℕ → List ℕ → LogAnswer
-scannedAs written s =
-    pick (ltb 65536 (length s)) TooLong
+-- "3 to 6 are tried in that order": 3 to 5 of them, of a log that makes so many bytes and frames
+unfoldable pub scannedAs : ℕ → ℕ → List ℕ → LogAnswer
+scannedAs written frames s =
+    pick (tooLong s) TooLong
     (pick (badStart s) BadStart
-    (orWrong (wrongIn (recordsFrom s 2)) (doneAs written (summed (listed s)))))
+    (orWrong (wrongIn (recordsFrom s 2)) (doneAs written frames (summed (listed s)))))
 
--- with the bytes counted
+-- with bytes and frames by the formula
 abbrev pub scannedOf : List ℕ → LogAnswer
-scannedOf s = scannedAs (bytesBy (summed (listed s))) s
+scannedOf s = let sums = summed (listed s) in scannedAs (bytesBy sums) (framesOf (sums .halves)) s
 
 -- 6: "output shorter than needed"
 unfoldable pub withinRoom : ℕ → LogAnswer → LogAnswer

@@ -1,6 +1,12 @@
 // What a log is answered: refusals 3 to 6, or what playing it makes. The bytes, frames and clock calls are counted here, before anything is played.
 ghost use mathlib.Core.Path.{_≡_};
-ghost use Rattle.log_scan.specs.Answers.{badStart, isDone, refusalOf, returnedOf, countsAfter, Small, doneBy, scannedOf, withinRoom};
+ghost use mathlib.Core.Bool.{_&&_};
+ghost use lib.Dec.{ltb};
+ghost use Rattle.ground.specs.Pick.{pick};
+ghost use Rattle.log_records.specs.Records.{listed};
+ghost use Rattle.log_scan.specs.Scan.{summed};
+ghost use Rattle.log_scan.specs.Answers.{badStart, isDone, refusalOf, returnedOf, refusedFor, returnedFor, countsAfter};
+ghost use Rattle.log_scan.specs.Answers.{Small, bytesBy, doneBy, scannedOf, withinRoom};
 use crate::scan::Found;
 use crate::scan::Mark;
 use crate::scan::Sums;
@@ -52,6 +58,8 @@ fn counted(sums: Sums) -> LogAnswer
 // What a log is answered where there is room enough: refusals 3, 4 and 5 in that order, or what playing it makes.
 pub fn scan(log: &[u8]) -> LogAnswer
     ensures { λ r. ⌜ r ≡ scannedOf (now (log .entry)) ⌝ }
+    ensures { λ r. ⌜ (refusalOf r ≡ refusedFor (now (log .entry)))
+        × (returnedOf r ≡ returnedFor (bytesBy (summed (listed (now (log .entry))))) (now (log .entry))) ⌝ }
 {
     let long = 65536 < log.len();
     let bad = bad_start(log);
@@ -74,6 +82,7 @@ pub fn scan(log: &[u8]) -> LogAnswer
 // The same in an output of so many bytes: refusal 6 comes last.
 pub fn within(answer: LogAnswer, room: usize) -> LogAnswer
     ensures { λ r. ⌜ r ≡ withinRoom room answer ⌝ }
+    ensures { λ r. ⌜ (refusalOf r ≡ pick (isDone answer && ltb room (returnedOf answer)) 6 (refusalOf answer)) × (returnedOf r ≡ returnedOf answer) ⌝ }
 {
     match answer {
         LogAnswer::Done {

@@ -1,4 +1,5 @@
--- `envelope_clock` meets its contract: its MIR is what the walk of `Through.antt` goes through, at `Envelope::clock`, whose theorem is cited. Assumes nothing.
+-- `envelope_clock` meets its contract: its MIR is what the walk of `Through.antt` goes through, at `Envelope::clock`, whose theorem is cited.
+-- Assumes nothing.
 use contract.Running.{givenOf, tables, tablesOf}
 use denote.Triple.Spec.{tripleOf}
 use denote.Triple.Table.{entered, cited}
@@ -17,4 +18,5 @@ envelope-clock-spec 𝓤 H 𝓜 𝓖 𝓡 =
     entered 𝓤 H (tripleOf 𝓤 H (𝓖 .A) f.signature (f.spec 𝓤 H (𝓖 .A) (𝓜 .mem) (𝓡 .run)))
     (tables 𝓤 H 𝓜 𝓡 code.env .C) (tables 𝓤 H 𝓜 𝓡 code.env .Λ) #f code.function (code.unfolded 𝓤 H 𝓜 𝓡)
     (meets clocked 𝓤 H (𝓖 .A) (givenOf 𝓤 H 𝓜 𝓖) (tablesOf 𝓤 H 𝓜 (tables 𝓤 H 𝓜 𝓡 code.env)) clock.name
-    (cited 𝓤 H (Method clocked 𝓤 H (𝓖 .A)) 𝓜 𝓡 code.env clock.name clock.routine code.calls-channel-parts·envelope·Envelope·clock (clock-thm.met 𝓤 H 𝓜 𝓖 𝓡)))
+    (cited 𝓤 H (Method clocked 𝓤 H (𝓖 .A)) 𝓜 𝓡 code.env clock.name clock.routine
+    code.calls-channel-parts·envelope·Envelope·clock (clock-thm.met 𝓤 H 𝓜 𝓖 𝓡)))

@@ -1,4 +1,5 @@
--- `envelope_trigger` meets its contract: its MIR is what the walk of `Through.antt` goes through, at `Envelope::trigger`, whose theorem is cited. Assumes nothing.
+-- `envelope_trigger` meets its contract: its MIR is what the walk of `Through.antt` goes through, at `Envelope::trigger`, whose theorem is cited.
+-- Assumes nothing.
 use contract.Running.{givenOf, tables, tablesOf}
 use denote.Triple.Spec.{tripleOf}
 use denote.Triple.Table.{entered, cited}
@@ -17,4 +18,5 @@ envelope-trigger-spec 𝓤 H 𝓜 𝓖 𝓡 =
     entered 𝓤 H (tripleOf 𝓤 H (𝓖 .A) f.signature (f.spec 𝓤 H (𝓖 .A) (𝓜 .mem) (𝓡 .run)))
     (tables 𝓤 H 𝓜 𝓡 code.env .C) (tables 𝓤 H 𝓜 𝓡 code.env .Λ) #f code.function (code.unfolded 𝓤 H 𝓜 𝓡)
     (meets triggered 𝓤 H (𝓖 .A) (givenOf 𝓤 H 𝓜 𝓖) (tablesOf 𝓤 H 𝓜 (tables 𝓤 H 𝓜 𝓡 code.env)) trigger.name
-    (cited 𝓤 H (Method triggered 𝓤 H (𝓖 .A)) 𝓜 𝓡 code.env trigger.name trigger.routine code.calls-channel-parts·envelope·Envelope·trigger (trigger-thm.met 𝓤 H 𝓜 𝓖 𝓡)))
+    (cited 𝓤 H (Method triggered 𝓤 H (𝓖 .A)) 𝓜 𝓡 code.env trigger.name trigger.routine
+    code.calls-channel-parts·envelope·Envelope·trigger (trigger-thm.met 𝓤 H 𝓜 𝓖 𝓡)))

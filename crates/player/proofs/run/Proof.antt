@@ -22,7 +22,7 @@ shared-slice-read-show-log c =
     let answer = c .before .before .answer in
     let scan = c .before .before .before .before .scan in
     let args = c .before .before .before .before .before .before .args in
-    let d : isDone (scannedOf (now (args .log))) ≡ true = rw (← (scan .ensures), answer .given .1) in let l = scanned-long _ (now (args .log)) d in omega (arith, l)
+    let d : isDone (scannedOf (now (args .log))) ≡ true = rw (← (scan .ensures .0), answer .given .1) in let l = scanned-long _ _ (now (args .log)) d in omega (arith, l)
 
 show-log-requires : tie.Need-show-log-requires
 show-log-requires c κs =

@@ -1,7 +1,6 @@
 -- The unit that the start byte asks for holds its ranges, and the buffers have 65,536 bytes. Assumes nothing.
 use borrow.Author.Needs.{needs}
 use mathlib.Core.Path.{sym}
-use Rattle.log_player.proofs.Walking.{start-held, start-floats}
 use Rattle.player.proofs.show_log.Statement.{statement}
 use Rattle.player.proofs.show_log.Tie as tie
 
@@ -29,7 +28,7 @@ show-list-requires : tie.Need-show-list-requires
 show-list-requires c κs =
     let start = c .before .before .start in
     let large-buffer = c .before .before .before .before .large-buffer in
-    (rw (start .ensures) (start-held _, start-floats _), sym (large-buffer .ensures))
+    (start .ensures .1, sym (large-buffer .ensures))
 
 slice-aggregate-flush : tie.Need-slice-aggregate-flush
 slice-aggregate-flush c =

@@ -4,7 +4,6 @@ use native.Mathlib.Omega.{arith}
 use Prim.Native.Nat.{ℕ, _-_, _≤_}
 use Rattle.apu.specs.Held.{Held}
 use Rattle.apu.specs.declared.Apu.{Apu}
-use Rattle.apu.proofs.Ranges.{new-held}
 use Rattle.sequences.proofs.main.Statement.{statement}
 use Rattle.sequences.proofs.main.Tie as tie
 
@@ -29,7 +28,7 @@ main-spec =
     (λ c. search needs)
     (λ c κs. search needs)
     (λ c κs. search needs)
-    (λ c. record { held = rw (c .new .ensures) (new-held _); within = search needs; place = omega arith })
+    (λ c. record { held = c .new .ensures .1 .0; within = search needs; place = omega arith })
     (λ c. omega (arith, c .loop .inv .place))
     (λ c. omega (arith, c .before .loop .inv .within))
     (λ c. omega (arith, c .before .loop .inv .within))

@@ -1,6 +1,5 @@
 -- The clock call keeps the ranges. Assumes nothing.
 use borrow.Author.Needs.{needs}
-use Rattle.apu_clock.proofs.Ranges.{clock-kept}
 use Rattle.sequences.proofs.show_clock.Statement.{statement}
 use Rattle.sequences.proofs.show_clock.Tie as tie
 
@@ -38,13 +37,13 @@ print-refused-requires : tie.Need-print-refused-requires
 print-refused-requires c κs = search needs
 
 returns : tie.Need-returns
-returns c = clock-kept (c .before .before .before .before .before .before .before .before .before .before .before .before .before .before .args .unit) (c .before .before .before .before .before .before .before .before .before .before .before .before .before .before .args .double) (c .before .before .before .before .before .before .before .before .before .before .before .before .before .before .args .divider) 0 _ _ _ (c .before .before .before .before .before .before .before .before .before .before .before .before .before .before .pre) (c .before .before .before .before .before .before .before .before .clock .ensures .0)
+returns c = c .before .before .before .before .before .before .before .before .clock .ensures .1 .0
 
 returns-2 : tie.Need-returns-2
-returns-2 c = clock-kept (c .before .before .before .before .before .before .before .before .before .before .before .before .before .before .before .before .before .before .before .before .args .unit) (c .before .before .before .before .before .before .before .before .before .before .before .before .before .before .before .before .before .before .before .before .args .double) (c .before .before .before .before .before .before .before .before .before .before .before .before .before .before .before .before .before .before .before .before .args .divider) 0 _ _ _ (c .before .before .before .before .before .before .before .before .before .before .before .before .before .before .before .before .before .before .before .before .pre) (c .before .before .before .before .before .before .before .before .before .before .before .before .before .before .clock .ensures .0)
+returns-2 c = c .before .before .before .before .before .before .before .before .before .before .before .before .before .before .clock .ensures .1 .0
 
 returns-3 : tie.Need-returns-3
-returns-3 c = clock-kept (c .before .before .before .before .before .before .before .before .before .before .before .before .before .before .before .args .unit) (c .before .before .before .before .before .before .before .before .before .before .before .before .before .before .before .args .double) (c .before .before .before .before .before .before .before .before .before .before .before .before .before .before .before .args .divider) 0 _ _ _ (c .before .before .before .before .before .before .before .before .before .before .before .before .before .before .before .pre) (c .before .before .before .before .before .before .before .before .before .clock .ensures .0)
+returns-3 c = c .before .before .before .before .before .before .before .before .before .clock .ensures .1 .0
 
 pub show-clock-spec : {M : Type 1} → statement M
 show-clock-spec =

@@ -1,6 +1,5 @@
 -- Both constructors hold the ranges. Assumes nothing.
 use borrow.Author.Needs.{needs}
-use Rattle.apu.proofs.Ranges.{new-held, skipped-held}
 use Rattle.sequences.proofs.show_start.Statement.{statement}
 use Rattle.sequences.proofs.show_start.Tie as tie
 
@@ -11,5 +10,5 @@ show-start-spec =
     (λ c κs. search needs)
     (λ c κs. search needs)
     (λ c κs. search needs)
-    (λ c. rw (c .new-skip-boot-rom .ensures) (skipped-held _))
-    (λ c. rw (c .new .ensures) (new-held _)))
+    (λ c. c .new-skip-boot-rom .ensures .1 .0)
+    (λ c. c .new .ensures .1 .0))

@@ -1,7 +1,5 @@
 -- The write keeps the ranges. Assumes nothing.
 use borrow.Author.Needs.{needs}
-use native.Mathlib.Omega.{arith}
-use Rattle.apu.proofs.Ranges.{write-held}
 use Rattle.sequences.proofs.show_write.Statement.{statement}
 use Rattle.sequences.proofs.show_write.Tie as tie
 
@@ -18,10 +16,10 @@ print-refused-requires : tie.Need-print-refused-requires
 print-refused-requires c κs = search needs
 
 returns : tie.Need-returns
-returns c = rw (c .before .before .before .write-register .ensures .0) (write-held (c .before .before .before .before .args .unit) (c .before .before .before .before .args .addr) (c .before .before .before .before .args .value) (omega arith) (c .before .before .before .before .pre))
+returns c = c .before .before .before .write-register .ensures .1 .0
 
 returns-2 : tie.Need-returns-2
-returns-2 c = rw (c .before .before .before .before .write-register .ensures .0) (write-held (c .before .before .before .before .before .args .unit) (c .before .before .before .before .before .args .addr) (c .before .before .before .before .before .args .value) (omega arith) (c .before .before .before .before .before .pre))
+returns-2 c = c .before .before .before .before .write-register .ensures .1 .0
 
 pub show-write-spec : {M : Type 1} → statement M
 show-write-spec =

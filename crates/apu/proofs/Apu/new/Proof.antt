@@ -1,6 +1,7 @@
 -- The groups are fresh, by what their calls ensure. Assumes nothing.
 use borrow.Author.Needs.{needs}
 use Rattle.apu.specs.Start.{fresh}
+use Rattle.apu.proofs.Given.{new-given}
 use Rattle.apu.proofs.Apu.new.Statement.{statement}
 use Rattle.apu.proofs.Apu.new.Tie as tie
 
@@ -13,4 +14,4 @@ new-spec =
     (λ c κs. search needs)
     (λ c κs. search needs)
     (λ c κs. search needs)
-    (λ c. rw (c .new4 .ensures, c .before .new3 .ensures, c .before .before .new2 .ensures, c .before .before .before .new .ensures)))
+    (λ c. new-given _ (rw (c .new4 .ensures, c .before .new3 .ensures, c .before .before .new2 .ensures, c .before .before .before .new .ensures))))

@@ -1,6 +1,7 @@
 -- What is written over the fresh unit is the definition's, by what the calls ensure. Assumes nothing.
 use borrow.Author.Needs.{needs}
 use Rattle.apu.specs.Start.{skipped}
+use Rattle.apu.proofs.Given.{skipped-given}
 use Rattle.apu.proofs.Apu.new_skip_boot_rom.Statement.{statement}
 use Rattle.apu.proofs.Apu.new_skip_boot_rom.Tie as tie
 
@@ -21,7 +22,13 @@ write-sound-length-requires c κs = search needs
 
 returns : tie.Need-returns
 unfolding skipped
-returns c = rw (c .write-sound-length .ensures, c .before .before .before .set-enable .ensures, c .before .before .before .before .write-pattern-duty .ensures, c .before .before .before .before .before .write-envelope-register .ensures, c .before .before .before .before .before .before .before .before .before .new .ensures)
+returns c =
+    let length = c .write-sound-length in
+    let on = c .before .before .before .set-enable in
+    let duty = c .before .before .before .before .write-pattern-duty in
+    let envelope = c .before .before .before .before .before .write-envelope-register in
+    let fresh = c .before .before .before .before .before .before .before .before .before .new in
+    skipped-given _ (rw (length .ensures, on .ensures, duty .ensures, envelope .ensures, fresh .ensures .0))
 
 pub new-skip-boot-rom-spec : {M : Type 1} → statement M
 new-skip-boot-rom-spec =

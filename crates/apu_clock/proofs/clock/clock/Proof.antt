@@ -1,7 +1,7 @@
 -- Below 2 half-clocks the call ends, else it is a working clock; which answers are refusals follows. Assumes nothing.
 use borrow.Author.Needs.{needs}
-use mathlib.Core.Path.{refl}
-use Rattle.apu_clock.proofs.Calling.{short-way, long-way, told, returned-is}
+use Rattle.apu_clock.proofs.Calling.{short-way, long-way}
+use Rattle.apu_clock.proofs.Given.{clock-given}
 use Rattle.apu_clock.proofs.clock.clock.Statement.{statement}
 use Rattle.apu_clock.proofs.clock.clock.Tie as tie
 
@@ -12,7 +12,12 @@ add-half : tie.Need-add-half
 add-half c = search needs
 
 returns : tie.Need-returns
-returns c = let e = short-way (c .before .before .before .before .before .before .before .before .args .unit) (c .before .before .before .before .before .before .before .before .args .double) (c .before .before .before .before .before .before .before .before .args .divider) (c .before .before .before .before .before .before .before .before .args .place) _ _ (c .before .before .half-clocks .ensures .0) (c .if1 .taken) in (e, told (c .before .before .before .before .before .before .before .before .args .unit) (c .before .before .before .before .before .before .before .before .args .double) (c .before .before .before .before .before .before .before .before .args .divider) (c .before .before .before .before .before .before .before .before .args .place) _ _ e, refl)
+returns c =
+    let half = c .before .before in
+    let start = half .before .before .before .before .before .before in
+    let a = start .args in
+    clock-given (a .unit) (a .double) (a .divider) (a .place) _ _ _ (start .pre)
+    (short-way (a .unit) (a .double) (a .divider) (a .place) _ _ (half .half-clocks .ensures .0) (c .if1 .taken))
 
 work-requires : tie.Need-work-requires
 work-requires c κs = search needs
@@ -33,7 +38,14 @@ same-length-5 : tie.Need-same-length-5
 same-length-5 c = search needs
 
 returns-2 : tie.Need-returns-2
-returns-2 c = let e = long-way (c .before .before .before .before .before .before .before .before .before .before .before .before .before .before .before .before .before .before .before .before .before .before .before .before .args .unit) (c .before .before .before .before .before .before .before .before .before .before .before .before .before .before .before .before .before .before .before .before .before .before .before .before .args .double) (c .before .before .before .before .before .before .before .before .before .before .before .before .before .before .before .before .before .before .before .before .before .before .before .before .args .divider) (c .before .before .before .before .before .before .before .before .before .before .before .before .before .before .before .before .before .before .before .before .before .before .before .before .args .place) _ _ (c .before .before .before .before .before .before .before .before .before .before .before .before .before .before .before .before .before .before .half-clocks .ensures .0) _ (c .before .before .before .before .before .before .before .before .before .before .before .before .before .before .before .before .if1 .left) (c .before .before .before .before .before .before .before .before .before .before .work .ensures) in (e, told (c .before .before .before .before .before .before .before .before .before .before .before .before .before .before .before .before .before .before .before .before .before .before .before .before .args .unit) (c .before .before .before .before .before .before .before .before .before .before .before .before .before .before .before .before .before .before .before .before .before .before .before .before .args .double) (c .before .before .before .before .before .before .before .before .before .before .before .before .before .before .before .before .before .before .before .before .before .before .before .before .args .divider) (c .before .before .before .before .before .before .before .before .before .before .before .before .before .before .before .before .before .before .before .before .before .before .before .before .args .place) _ _ e, returned-is (c .before .before .before .before .before .before .before .before .before .before .work .result .answer))
+returns-2 c =
+    let worked = c .before .before .before .before .before .before .before .before .before .before in
+    let long = worked .before .before .before .before .before .before in
+    let half = long .before .before in
+    let start = half .before .before .before .before .before .before in
+    let a = start .args in
+    clock-given (a .unit) (a .double) (a .divider) (a .place) _ _ _ (start .pre)
+    (long-way (a .unit) (a .double) (a .divider) (a .place) _ _ (half .half-clocks .ensures .0) _ (long .if1 .left) (worked .work .ensures))
 
 pub clock-spec : {M : Type 1} → statement M
 clock-spec =

@@ -34,16 +34,37 @@ same-length-5 : tie.Need-same-length-5
 same-length-5 c = search needs
 
 returns : tie.Need-returns
-returns c = frame-way (c .before .before .before .before .before .before .before .before .before .before .before .before .before .before .before .before .before .before .before .before .before .before .before .before .before .before .before .args .unit) (c .before .before .before .before .before .before .before .before .before .before .before .before .before .before .before .before .before .before .before .before .before .before .before .before .before .before .before .args .half) (c .before .before .before .before .before .before .before .before .before .before .before .before .before .before .before .before .before .before .before .before .before .before .before .before .before .before .before .args .double) (c .before .before .before .before .before .before .before .before .before .before .before .before .before .before .before .before .before .before .before .before .before .before .before .before .before .before .before .args .divider) (c .before .before .before .before .before .before .before .before .before .before .before .before .before .before .before .before .before .before .before .before .before .before .before .before .before .before .before .args .place) _ (c .before .before .before .before .before .before .before .before .before .before .before .before .before .before .before .before .before .before .before .before .before .tick .result) (c .before .before .before .before .before .before .before .before .before .before .before .before .before .before .before .before .before .before .before .before .before .tick .ensures) _ _ (c .before .before .before .before .before .before .before .before .before .before .before .before .before .before .before .before .before .before .before .before .if1 .taken) (sym (c .before .before .before .before .before .before .before .before .before .before .before .before .before .before .before .before .before .before .before .all-have-room .ensures) ∙ c .before .before .before .before .before .before .before .before .before .before .before .before .before .before .before .before .before .before .if2 .taken) (c .before .before .before .before .before .before .before .before .before .before .before .before .before .before .before .before .before .frame .ensures) (c .before .before .before .before .before .before .before .before .before .before .put-frame .ensures)
+returns c =
+    let put = c .before .before .before .before .before .before .before .before .before .before in
+    let framed = put .before .before .before .before .before .before .before in
+    let room = framed .before in
+    let asked = room .before in
+    let due = asked .before in
+    let ticked = due .before in
+    let a = ticked .before .before .before .before .before .before .args in
+    frame-way (a .unit) (a .half) (a .double) (a .divider) (a .place) _ (ticked .tick .result) (ticked .tick .ensures) _ _ (due .if1 .taken)
+    (sym (asked .all-have-room .ensures) ∙ room .if2 .taken)
+    (framed .frame .ensures)
+    (put .put-frame .ensures)
 
 returns-2 : tie.Need-returns-2
-returns-2 c = refused-way (c .before .before .before .before .before .before .before .before .before .args .unit) (c .before .before .before .before .before .before .before .before .before .args .half) (c .before .before .before .before .before .before .before .before .before .args .double) (c .before .before .before .before .before .before .before .before .before .args .divider) (c .before .before .before .before .before .before .before .before .before .args .place) _ (c .before .before .before .tick .result) (c .before .before .before .tick .ensures) (c .before .before .if1 .taken) (sym (c .before .all-have-room .ensures) ∙ c .if2 .left)
+returns-2 c =
+    let asked = c .before in
+    let due = asked .before in
+    let ticked = due .before in
+    let a = ticked .before .before .before .before .before .before .args in
+    refused-way (a .unit) (a .half) (a .double) (a .divider) (a .place) _ (ticked .tick .result) (ticked .tick .ensures) (due .if1 .taken)
+    (sym (asked .all-have-room .ensures) ∙ c .if2 .left)
 
 pass-requires : tie.Need-pass-requires
 pass-requires c κs = search needs
 
 returns-3 : tie.Need-returns-3
-returns-3 c = plain-way (c .before .before .before .before .before .before .before .before .args .unit) (c .before .before .before .before .before .before .before .before .args .half) (c .before .before .before .before .before .before .before .before .args .double) (c .before .before .before .before .before .before .before .before .args .divider) (c .before .before .before .before .before .before .before .before .args .place) _ (c .before .before .tick .result) (c .before .before .tick .ensures) _ (c .before .if1 .left) (c .pass .ensures)
+returns-3 c =
+    let plain = c .before in
+    let ticked = plain .before in
+    let a = ticked .before .before .before .before .before .before .args in
+    plain-way (a .unit) (a .half) (a .double) (a .divider) (a .place) _ (ticked .tick .result) (ticked .tick .ensures) _ (plain .if1 .left) (c .pass .ensures)
 
 pub work-spec : {M : Type 1} → statement M
 work-spec =

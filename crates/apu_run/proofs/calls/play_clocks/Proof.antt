@@ -70,7 +70,11 @@ sub-owed c =
     falls inv met (c .before .before .before .before .before .before .if1 .taken) .count
 
 loop-less : tie.Need-loop-less Inv-loop μ-loop
-loop-less c = omega arith
+loop-less c =
+    let here = c .before .before .before .before .before .before .before in
+    let turn = here .before .before .before in
+    let stretch = turn .same-bit .ensures .1 .0 in
+    omega (arith, stretch .0, stretch .1)
 
 loop-again : tie.Need-loop-again Inv-loop μ-loop
 loop-again c =
@@ -81,7 +85,7 @@ loop-again c =
     let bit = here .before .sequencer-bit .ensures in
     let met = meets (calls _ _ _ (stretch .0 .1)) (stretch .1) (here .before .before .divider-at .ensures) bit (here .meet .ensures) in
     let fell = c .before .before .before .before .fall .ensures in
-    rw (fell .0, fell .1) (turn-fell inv met (c .before .before .before .before .before .before .if1 .taken))
+    rw (fell .0, fell .1 .0) (turn-fell inv met (c .before .before .before .before .before .before .if1 .taken))
 
 add-owed : tie.Need-add-owed Inv-loop μ-loop
 add-owed c =
@@ -120,7 +124,8 @@ returns : tie.Need-returns Inv-loop μ-loop
 returns c =
     let ran = c .before .before .settle .ensures in
     let end = last (c .before .before .before .before .before .loop .inv) (omega arith) in
-    ended end _ _ (ran .0) (ran .1)
+    let all = ended end _ _ (ran .0) (ran .1 .0) in
+    (all .0, (all .1, ran .1 .1))
 
 pub play-clocks-spec : {M : Type 1} → statement M
 play-clocks-spec =

@@ -48,7 +48,7 @@ returns c =
     ⊎-elim (λ w. record { is = w .6 ∙ w .2 .ensures .0; bytes = w .5 ∙ w .2 .ensures .1 })
     (λ w. record { is = w .6 ∙ w .2 .ensures .0; bytes = w .5 ∙ w .2 .ensures .1 })
     (if1 .came) in
-    (settled-play ran (put-back .ensures), ran .bytes)
+    settled-play ran (record { held = start .pre .0; floats = start .pre .1 .0 }) (put-back .ensures)
 
 pub settle-spec : {M : Type 1} → statement M
 settle-spec =

@@ -25,27 +25,39 @@ at-most-requires c κs =
 
 calls-requires : tie.Need-calls-requires Inv-loop μ-loop
 calls-requires c κs =
-    (held (c .before .before .loop .inv), omega (arith, c .at-most .ensures))
+    let loop = c .before .before .loop in
+    (held (loop .inv), omega (arith, c .at-most .ensures))
 
 add-frames : tie.Need-add-frames Inv-loop μ-loop
 add-frames c =
-    let l = few (c .before .before .before .before .before .loop .inv) (c .before .before .before .at-most .result) (omega (arith, c .before .before .before .at-most .ensures)) (c .before .before .calls .result) (c .before .before .calls .ensures) in omega (arith, l, c .before .before .before .before .before .before .before .fits .halves)
+    let calls = c .before .before .calls in
+    let at-most = c .before .before .before .at-most in
+    let loop = c .before .before .before .before .before .loop in
+    let fits = c .before .before .before .before .before .before .before .fits in
+    let made = few (loop .inv) (at-most .result) (omega (arith, at-most .ensures)) (calls .result) (calls .ensures) in
+    omega (arith, made, fits .halves)
 
 sub-left : tie.Need-sub-left Inv-loop μ-loop
 sub-left c =
-    omega (arith, c .before .before .before .at-most .ensures)
+    let at-most = c .before .before .before .at-most in
+    omega (arith, at-most .ensures)
 
 loop-less : tie.Need-loop-less Inv-loop μ-loop
 loop-less c =
-    omega (arith, c .before .before .before .at-most .ensures)
+    let at-most = c .before .before .before .at-most in
+    omega (arith, at-most .ensures)
 
 loop-again : tie.Need-loop-again Inv-loop μ-loop
 loop-again c =
-    rw (c .before .before .calls .ensures) (turn (c .before .before .before .before .before .loop .inv) _ (omega (arith, c .before .before .before .at-most .ensures)))
+    let calls = c .before .before .calls in
+    let at-most = c .before .before .before .at-most in
+    let loop = c .before .before .before .before .before .loop in
+    rw (calls .ensures) (turn (loop .inv) _ (omega (arith, at-most .ensures)))
 
 returns : tie.Need-returns Inv-loop μ-loop
 returns c =
-    ended (c .before .loop .inv) (omega arith)
+    let loop = c .before .loop in
+    ended (loop .inv) (omega arith)
 
 pub frames-of-spec : {M : Type 1} → statement M
 frames-of-spec =

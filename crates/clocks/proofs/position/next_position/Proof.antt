@@ -26,7 +26,8 @@ Number z = T (nonNeg (toZ w8 (ofZ w8 (up z)))) × Fits w8 (natAbs (toZ w8 (ofZ w
 
 number : (z : ℤ) → PositionHeld z → Number z
 number =
-    nine Number (tt, fits-lit tt) (tt, fits-lit tt) (tt, fits-lit tt) (tt, fits-lit tt) (tt, fits-lit tt) (tt, fits-lit tt) (tt, fits-lit tt) (tt, fits-lit tt) (tt, fits-lit tt)
+    nine Number (tt, fits-lit tt) (tt, fits-lit tt) (tt, fits-lit tt) (tt, fits-lit tt) (tt, fits-lit tt)
+    (tt, fits-lit tt) (tt, fits-lit tt) (tt, fits-lit tt) (tt, fits-lit tt)
 
 next-is : (z : ℤ) → PositionHeld z → natAbs (toZ w8 (ofZ w8 (up z))) ≡ nextOf z
 next-is = nine (λ (z : ℤ). natAbs (toZ w8 (ofZ w8 (up z))) ≡ nextOf z) refl refl refl refl refl refl refl refl refl

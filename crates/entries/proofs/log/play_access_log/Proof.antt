@@ -24,7 +24,7 @@ same-length c =
 returns : tie.Need-returns
 returns c =
     let play-log = c .before .before .before .play-log in
-    (rw (c .pack .ensures, play-log .ensures .0), rw (play-log .ensures .0) at (play-log .ensures .1))
+    (rw (c .pack .ensures, play-log .ensures .0), rw (play-log .ensures .0) at (play-log .ensures .1 .0))
 
 pub play-access-log-spec : {M : Type 1} → statement M
 play-access-log-spec =

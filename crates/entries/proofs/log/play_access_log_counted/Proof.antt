@@ -34,7 +34,7 @@ returns : tie.Need-returns
 returns c =
     let put-counts = c .before .before .before .put-counts in
     let play-log = c .before .before .before .before .before .before .before .play-log in
-    (rw (c .pack .ensures, play-log .ensures .0), (rw (play-log .ensures .0) at (play-log .ensures .1), rw (play-log .ensures .0) at (put-counts .ensures)))
+    (rw (c .pack .ensures, play-log .ensures .0), (rw (play-log .ensures .0) at (play-log .ensures .1 .0), rw (play-log .ensures .0) at (put-counts .ensures)))
 
 pub play-access-log-counted-spec : {M : Type 1} → statement M
 play-access-log-counted-spec =

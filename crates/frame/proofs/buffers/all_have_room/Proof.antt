@@ -21,7 +21,12 @@ has-room-requires-5 c κs = search needs
 
 returns : tie.Need-returns
 unfolding roomInAll
-returns c = rw (c .before .before .before .before .has-room .ensures, c .before .before .before .has-room2 .ensures, c .before .before .has-room3 .ensures, c .before .has-room4 .ensures, c .has-room5 .ensures)
+returns c =
+    let has-room4 = c .before .has-room4 in
+    let has-room3 = c .before .before .has-room3 in
+    let has-room2 = c .before .before .before .has-room2 in
+    let has-room = c .before .before .before .before .has-room in
+    rw (has-room .ensures, has-room2 .ensures, has-room3 .ensures, has-room4 .ensures, c .has-room5 .ensures)
 
 pub all-have-room-spec : {M : Type 1} → statement M
 all-have-room-spec =

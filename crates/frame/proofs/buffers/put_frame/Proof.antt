@@ -36,7 +36,13 @@ same-length-5 c = search needs
 
 returns : tie.Need-returns
 unfolding framed
-returns c = rw (c .before .before .put-sides5 .ensures, c .before .before .before .before .before .before .put-sides4 .ensures, c .before .before .before .before .before .before .before .before .before .before .put-sides3 .ensures, c .before .before .before .before .before .before .before .before .before .before .before .before .before .before .put-sides2 .ensures, c .before .before .before .before .before .before .before .before .before .before .before .before .before .before .before .before .before .before .put-sides .ensures)
+returns c =
+    let fifth = c .before .before in
+    let fourth = fifth .before .before .before .before in
+    let third = fourth .before .before .before .before in
+    let second = third .before .before .before .before in
+    let first = second .before .before .before .before in
+    rw (fifth .put-sides5 .ensures, fourth .put-sides4 .ensures, third .put-sides3 .ensures, second .put-sides2 .ensures, first .put-sides .ensures)
 
 pub put-frame-spec : {M : Type 1} → statement M
 put-frame-spec =

@@ -21,7 +21,12 @@ sides-of-requires c κs = search needs
 
 returns : tie.Need-returns
 unfolding voiced
-returns c = rw (c .before .sides-of .ensures, c .before .before .selected2 .ensures, c .before .before .before .selected .ensures, c .before .before .before .before .dac-output .ensures)
+returns c =
+    let sides-of = c .before .sides-of in
+    let selected2 = c .before .before .selected2 in
+    let selected = c .before .before .before .selected in
+    let dac-output = c .before .before .before .before .dac-output in
+    rw (sides-of .ensures, selected2 .ensures, selected .ensures, dac-output .ensures)
 
 pub voice-spec : {M : Type 1} → statement M
 voice-spec =

@@ -10,7 +10,8 @@ use Rattle.log_items.proofs.items.put_numbers.Tie as tie
 
 float-to-bits-put-word : tie.Need-float-to-bits-put-word
 float-to-bits-put-word c =
-    c .before .before .before .pre .1 .right
+    let start = c .before .before .before in
+    start .pre .1 .right
 
 put-word-requires : tie.Need-put-word-requires
 put-word-requires c κs =
@@ -22,19 +23,29 @@ add-put-word c =
 
 float-to-bits-put-word-2 : tie.Need-float-to-bits-put-word-2
 float-to-bits-put-word-2 c =
-    c .before .before .before .before .before .before .before .before .pre .1 .left
+    let start = c .before .before .before .before .before .before .before .before in
+    start .pre .1 .left
 
 put-word-requires-2 : tie.Need-put-word-requires-2
 put-word-requires-2 c κs =
-    omega (arith, c .before .before .before .before .put-word .kept .0)
+    let first = c .before .before .before .before in
+    omega (arith, first .put-word .kept .0)
 
 same-length : tie.Need-same-length
 same-length c =
-    c .before .before .put-word2 .kept .0 ∙ c .before .before .before .before .before .before .before .put-word .kept .0
+    let second = c .before .before in
+    let first = second .before .before .before .before .before in
+    second .put-word2 .kept .0 ∙ first .put-word .kept .0
 
 returns : tie.Need-returns
 returns c =
-    two-words (now (c .before .before .before .before .before .before .before .before .before .before .before .args .out)) _ _ (c .before .before .before .before .before .before .before .before .before .before .before .args .at) (toBits binary32 (c .before .before .before .before .before .before .before .before .before .before .before .args .sides .right)) (toBits binary32 (c .before .before .before .before .before .before .before .before .before .before .before .args .sides .left)) (toBits binary32 (c .before .before .before .before .before .before .before .before .before .before .before .args .sides .right)) (toBits binary32 (c .before .before .before .before .before .before .before .before .before .before .before .args .sides .left)) (c .before .before .before .before .before .before .before .put-word .ensures) (c .before .before .put-word2 .ensures) refl refl
+    let second = c .before .before in
+    let first = second .before .before .before .before .before in
+    let start = first .before .before .before .before in
+    let a = start .args in
+    let right = toBits binary32 (a .sides .right) in
+    let left = toBits binary32 (a .sides .left) in
+    two-words (now (a .out)) _ _ (a .at) right left right left (first .put-word .ensures) (second .put-word2 .ensures) refl refl
 
 pub put-numbers-spec : {M : Type 1} → statement M
 put-numbers-spec =

@@ -1,7 +1,7 @@
 -- The pattern of 0 is four zeros, so forty of them stand behind the first byte. Assumes nothing.
 use borrow.Author.Needs.{needs}
 use native.Mathlib.Omega.{arith}
-use Prim.Native.Nat.{ℕ, suc, _+_, _-_}
+use Prim.Native.Nat.{ℕ, _+_, _-_}
 use mathlib.Core.Path.{_≡_, ap₂, _∙_}
 use mathlib.Core.List.{List}
 use denote.Ref.{now}
@@ -9,16 +9,14 @@ use lib.Ieee.{ofBits, toBits}
 use lib.ListN.{set, replicate, length-set}
 use lib.Seq.{sets}
 use Rattle.log_items.specs.Items.{mixItem, silence}
+use native.Mathlib.Numerals.{add-one}
 use Rattle.log_items.proofs.items.put_silence.Statement.{statement}
 use Rattle.log_items.proofs.items.put_silence.Tie as tie
 
 silent-bytes : (l x : List ℕ) (at : ℕ) → x ≡ sets (set l at 70) (at + 1) (replicate (at + 41 - (at + 1)) 0) → x ≡ sets l at (mixItem silence)
 unfolding mixItem ofBits toBits
-silent-bytes l x at e = e ∙ ap₂ (λ (i n : ℕ). sets (set l at 70) i (replicate n 0)) (after at) (forty at)
+silent-bytes l x at e = e ∙ ap₂ (λ (i n : ℕ). sets (set l at 70) i (replicate n 0)) (add-one at) (forty at)
   where
-    after : (at : ℕ) → at + 1 ≡ suc at
-    after at = omega arith
-
     forty : (at : ℕ) → at + 41 - (at + 1) ≡ 40
     forty at = omega arith
 
@@ -27,8 +25,9 @@ returns c = silent-bytes _ _ _ (c .before .before .put-zeros .ensures)
 
 same-length : tie.Need-same-length
 same-length c =
-    let start = c .before .before .before .before .before in
-    c .before .before .put-zeros .kept .0 ∙ length-set (now (start .args .out)) (start .args .at) 70
+    let zeros = c .before .before .put-zeros in
+    let a = c .before .before .before .before .before .args in
+    zeros .kept .0 ∙ length-set (now (a .out)) (a .at) 70
 
 pub put-silence-spec : {M : Type 1} → statement M
 put-silence-spec =

@@ -6,8 +6,7 @@ use native.Mathlib.Nat.{zero-add}
 use lib.ListN.{length}
 use denote.Ref.{now}
 use Rattle.log_player.specs.Logs.{bytesOfLog}
-use Rattle.log_player.proofs.Walking.{start-held, start-floats}
-use Rattle.log_player.proofs.Answering.{answer-is, long, room, put-out, kept-out}
+use Rattle.log_player.proofs.Answering.{answered, long, room, put-out, kept-out}
 use Rattle.log_player.proofs.log.play_log.Statement.{statement}
 use Rattle.log_player.proofs.log.play_log.Tie as tie
 
@@ -31,7 +30,7 @@ shared-slice-read-start c =
     let scan = c .before .before .before .before .scan in
     let args = c .before .before .before .before .before .before .before .args in
     let done = sym (is-done .ensures) ∙ if1 .taken in
-    let l = long (now (args .log)) (now (args .out)) _ _ (scan .ensures) (within .ensures) done in
+    let l = long (now (args .log)) (now (args .out)) _ _ (scan .ensures .0) (within .ensures .0) done in
     omega (arith, l)
 
 start-requires : tie.Need-start-requires
@@ -47,8 +46,9 @@ play-list-requires c κs =
     let scan = c .before .before .before .before .before .before .scan in
     let args = c .before .before .before .before .before .before .before .before .before .args in
     let done = sym (is-done .ensures) ∙ if1 .taken in
-    let fits = room (now (args .log)) (now (args .out)) _ _ (scan .ensures) (within .ensures) done in
-    rw (start .ensures) (start-held _, (start-floats _, rw (zero-add (length (bytesOfLog (now (args .log))))) fits))
+    let fits = room (now (args .log)) (now (args .out)) _ _ (scan .ensures .0) (within .ensures .0) done in
+    let ranges = start .ensures .1 in
+    (ranges .0, (ranges .1, rw (start .ensures .0, zero-add (length (bytesOfLog (now (args .log))))) fits))
 
 same-length : tie.Need-same-length
 same-length c =
@@ -65,8 +65,8 @@ returns c =
     let scan = c .before .before .before .before .before .before .before .before .before .scan in
     let args = c .before .before .before .before .before .before .before .before .before .before .before .before .args in
     let done = sym (is-done .ensures) ∙ if1 .taken in
-    let put = put-out (now (args .log)) (now (args .out)) _ _ (scan .ensures) (within .ensures) done in
-    (answer-is (now (args .log)) (now (args .out)) _ _ (scan .ensures) (within .ensures), rw (start .ensures) at (play-list .ensures .1) ∙ put)
+    let put = put-out (now (args .log)) (now (args .out)) _ _ (scan .ensures .0) (within .ensures .0) done in
+    answered (now (args .log)) (now (args .out)) _ _ (scan .ensures .0) (within .ensures .0) (rw (start .ensures .0) at (play-list .ensures .1 .0) ∙ put)
 
 returns-2 : tie.Need-returns-2
 returns-2 c =
@@ -74,8 +74,8 @@ returns-2 c =
     let within = c .before .before .within in
     let scan = c .before .before .before .scan in
     let args = c .before .before .before .before .before .before .args in
-    let kept = kept-out (now (args .log)) (now (args .out)) _ _ (scan .ensures) (within .ensures) (sym (is-done .ensures) ∙ c .if1 .left) in
-    (answer-is (now (args .log)) (now (args .out)) _ _ (scan .ensures) (within .ensures), kept)
+    let kept = kept-out (now (args .log)) (now (args .out)) _ _ (scan .ensures .0) (within .ensures .0) (sym (is-done .ensures) ∙ c .if1 .left) in
+    answered (now (args .log)) (now (args .out)) _ _ (scan .ensures .0) (within .ensures .0) kept
 
 pub play-log-spec : {M : Type 1} → statement M
 play-log-spec =

@@ -13,5 +13,5 @@ start-spec =
     (tie.spec
     (λ c κs. search needs)
     (λ c κs. search needs)
-    (λ c. rw (c .new-skip-boot-rom .ensures, eq-eqb _ _ (c .before .if1 .taken)))
-    (λ c. rw (c .new .ensures, ne-eqb _ _ (c .before .if1 .left))))
+    (λ c. (rw (c .new-skip-boot-rom .ensures .0, eq-eqb _ _ (c .before .if1 .taken)), c .new-skip-boot-rom .ensures .1))
+    (λ c. (rw (c .new .ensures .0, ne-eqb _ _ (c .before .if1 .left)), c .new .ensures .1)))

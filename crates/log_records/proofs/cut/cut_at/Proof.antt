@@ -31,11 +31,19 @@ sub-if3-2 c = search needs
 
 returns-3 : tie.Need-returns-3
 unfolding pick cutAt
-returns-3 c = rw (← (c .before .word-at .ensures), lt-leb _ _ (c .before .before .before .if1 .left), le-ltb _ _ (c .before .before .if2 .left), lt-ltb _ _ (c .if3 .taken))
+returns-3 c =
+    let word = c .before .word-at in
+    let if2 = c .before .before .if2 in
+    let if1 = c .before .before .before .if1 in
+    rw (← (word .ensures), lt-leb _ _ (if1 .left), le-ltb _ _ (if2 .left), lt-ltb _ _ (c .if3 .taken))
 
 returns-4 : tie.Need-returns-4
 unfolding pick cutAt
-returns-4 c = rw (← (c .before .word-at .ensures), lt-leb _ _ (c .before .before .before .if1 .left), le-ltb _ _ (c .before .before .if2 .left), le-ltb _ _ (c .if3 .left))
+returns-4 c =
+    let word = c .before .word-at in
+    let if2 = c .before .before .if2 in
+    let if1 = c .before .before .before .if1 in
+    rw (← (word .ensures), lt-leb _ _ (if1 .left), le-ltb _ _ (if2 .left), le-ltb _ _ (c .if3 .left))
 
 pub cut-at-spec : {M : Type 1} → statement M
 cut-at-spec =

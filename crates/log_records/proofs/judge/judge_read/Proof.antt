@@ -6,12 +6,30 @@ use Rattle.log_records.specs.Judge.{readOf}
 use Rattle.log_records.proofs.judge.judge_read.Statement.{statement}
 use Rattle.log_records.proofs.judge.judge_read.Tie as tie
 
-pub judge-read-spec : {M : Type 1} → statement M
+returns : tie.Need-returns
 unfolding pick readOf
+returns c =
+    let word = c .before .word-at in
+    let if1 = c .before .before .if1 in
+    rw (← (word .ensures), eq-eqb _ _ (if1 .taken), c .if2 .taken)
+
+returns-2 : tie.Need-returns-2
+unfolding pick readOf
+returns-2 c =
+    let word = c .before .word-at in
+    let if1 = c .before .before .if1 in
+    rw (← (word .ensures), eq-eqb _ _ (if1 .taken), c .if2 .left)
+
+returns-3 : tie.Need-returns-3
+unfolding pick readOf
+returns-3 c =
+    rw (ne-eqb _ _ (c .if1 .left))
+
+pub judge-read-spec : {M : Type 1} → statement M
 judge-read-spec =
     tie.close
     (tie.spec
     (λ c κs. search needs)
-    (λ c. rw (← (c .before .word-at .ensures), eq-eqb _ _ (c .before .before .if1 .taken), c .if2 .taken))
-    (λ c. rw (← (c .before .word-at .ensures), eq-eqb _ _ (c .before .before .if1 .taken), c .if2 .left))
-    (λ c. rw (ne-eqb _ _ (c .if1 .left))))
+    returns
+    returns-2
+    returns-3)

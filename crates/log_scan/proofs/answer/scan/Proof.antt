@@ -5,21 +5,50 @@ use Rattle.log_scan.specs.Answers.{scannedAs}
 use mathlib.Core.Path.{sym, _∙_, ap}
 use Rattle.log_scan.specs.declared.scan.Found.{Found}
 use Rattle.log_scan.proofs.Bounds.{small}
+use Rattle.log_scan.proofs.Refusals.{scan-refuses}
 use borrow.Author.Tests.{ltb-false}
 use Rattle.log_scan.proofs.answer.scan.Statement.{statement}
 use Rattle.log_scan.proofs.answer.scan.Tie as tie
 
-pub scan-spec : {M : Type 1} → statement M
+too-long : tie.Need-returns
 unfolding pick scannedAs
+too-long c = scan-refuses _ (rw (c .if1 .taken))
+
+bad-start : tie.Need-returns-2
+unfolding pick scannedAs
+bad-start c = scan-refuses _ (rw (c .before .if1 .left, ← (c .before .before .bad-start .ensures), c .if2 .taken))
+
+good : tie.Need-returns-3
+unfolding pick scannedAs
+good c =
+    let listed = c .before .before .before in
+    let start = listed .before in
+    let short = start .before in
+    let first = ap (λ (f : Found). f .wrong) (listed .scan-list .ensures) in
+    let clear = sym first ∙ c .before .enum-told .given .1 in
+    scan-refuses _
+    (rw (short .if1 .left, ← (short .before .bad-start .ensures), start .if2 .left, clear) (rw (listed .scan-list .ensures) at (c .counted .ensures)))
+
+wrong : tie.Need-returns-4
+unfolding pick scannedAs
+wrong c =
+    let listed = c .before .before .before in
+    let start = listed .before in
+    let short = start .before in
+    let first = ap (λ (f : Found). f .wrong) (listed .scan-list .ensures) in
+    let there = sym first ∙ c .before .wrong .given .1 in
+    scan-refuses _ (rw (short .if1 .left, ← (short .before .bad-start .ensures), start .if2 .left, there))
+
+pub scan-spec : {M : Type 1} → statement M
 scan-spec =
     tie.close
     (tie.spec
     (λ c κs. search needs)
-    (λ c. rw (c .if1 .taken))
-    (λ c. rw (c .before .if1 .left, ← (c .before .before .bad-start .ensures), c .if2 .taken))
+    too-long
+    bad-start
     (λ c κs. ltb-false _ _ (c .before .if1 .left))
     (λ c. search needs)
     (λ c κs. rw (c .before .before .scan-list .ensures) (small _ (ltb-false _ _ (c .before .before .before .before .if1 .left))))
     (λ c. search needs)
-    (λ c. let w = ap (λ (f : Found). f .wrong) (c .before .before .before .scan-list .ensures) in let m = sym w ∙ c .before .enum-told .given .1 in rw (c .before .before .before .before .before .if1 .left, ← (c .before .before .before .before .before .before .bad-start .ensures), c .before .before .before .before .if2 .left, m) (rw (c .before .before .before .scan-list .ensures) at (c .counted .ensures)))
-    (λ c. let w = ap (λ (f : Found). f .wrong) (c .before .before .before .scan-list .ensures) in let m = sym w ∙ c .before .wrong .given .1 in rw (c .before .before .before .before .before .if1 .left, ← (c .before .before .before .before .before .before .bad-start .ensures), c .before .before .before .before .if2 .left, m)))
+    good
+    wrong)

@@ -4,11 +4,16 @@ use Rattle.channel_groups.specs.NoiseGroups.{readied}
 use Rattle.channel_groups.proofs.noise_group.NoiseGroup.ready.Statement.{statement}
 use Rattle.channel_groups.proofs.noise_group.NoiseGroup.ready.Tie as tie
 
-pub ready-spec : {M : Type 1} → statement M
+returns : tie.Need-returns
 unfolding readied
+returns c =
+    let length-enable = c .before .before .before .before .before .write-length-enable in
+    rw (c .set-enable .ensures, length-enable .ensures)
+
+pub ready-spec : {M : Type 1} → statement M
 ready-spec =
     tie.close
     (tie.spec
     (λ c κs. search needs)
     (λ c κs. search needs)
-    (λ c. rw (c .set-enable .ensures, c .before .before .before .before .before .write-length-enable .ensures)))
+    returns)

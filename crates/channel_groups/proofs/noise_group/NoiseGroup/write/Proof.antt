@@ -36,7 +36,9 @@ returns-4 c = rw (c .write-control .ensures, c .before .match .keys4)
 
 returns-5 : tie.Need-returns-5
 unfolding pick written
-returns-5 c = rw (ne-eqb _ _ (c .match .rest .0 .0 .0 .1), ne-eqb _ _ (c .match .rest .0 .0 .1), ne-eqb _ _ (c .match .rest .0 .1), ne-eqb _ _ (c .match .rest .1))
+returns-5 c =
+    let rest = c .match .rest in
+    rw (ne-eqb _ _ (rest .0 .0 .0 .1), ne-eqb _ _ (rest .0 .0 .1), ne-eqb _ _ (rest .0 .1), ne-eqb _ _ (rest .1))
 
 pub write-spec : {M : Type 1} → statement M
 write-spec =

@@ -4,8 +4,15 @@ use Rattle.channel_groups.specs.PulseGroups.{readied}
 use Rattle.channel_groups.proofs.pulse_group.PulseGroup.ready.Statement.{statement}
 use Rattle.channel_groups.proofs.pulse_group.PulseGroup.ready.Tie as tie
 
-pub ready-spec : {M : Type 1} → statement M
+returns : tie.Need-returns
 unfolding readied
+returns c =
+    let frequency = c .before .before .before .write-frequency in
+    let high = c .before .before .before .before .high-written in
+    let length-enable = c .before .before .before .before .before .before .before .write-length-enable in
+    rw (c .set-enable .ensures, frequency .ensures, high .ensures, length-enable .ensures)
+
+pub ready-spec : {M : Type 1} → statement M
 ready-spec =
     tie.close
     (tie.spec
@@ -13,4 +20,4 @@ ready-spec =
     (λ c κs. search needs)
     (λ c κs. search needs)
     (λ c κs. search needs)
-    (λ c. rw (c .set-enable .ensures, c .before .before .before .write-frequency .ensures, c .before .before .before .before .high-written .ensures, c .before .before .before .before .before .before .before .write-length-enable .ensures)))
+    returns)

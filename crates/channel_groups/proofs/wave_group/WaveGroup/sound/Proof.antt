@@ -4,12 +4,19 @@ use Rattle.channel_groups.specs.WaveGroups.{sounded}
 use Rattle.channel_groups.proofs.wave_group.WaveGroup.sound.Statement.{statement}
 use Rattle.channel_groups.proofs.wave_group.WaveGroup.sound.Tie as tie
 
-pub sound-spec : {M : Type 1} → statement M
+returns : tie.Need-returns
 unfolding sounded
+returns c =
+    let voice = c .before .before .voice in
+    let muted = c .before .before .before .muted in
+    let output = c .before .before .before .before .output in
+    rw (voice .ensures, muted .ensures, output .ensures)
+
+pub sound-spec : {M : Type 1} → statement M
 sound-spec =
     tie.close
     (tie.spec
     (λ c κs. search needs)
     (λ c κs. search needs)
     (λ c κs. search needs)
-    (λ c. rw (c .before .before .voice .ensures, c .before .before .before .muted .ensures, c .before .before .before .before .output .ensures)))
+    returns)

@@ -19,7 +19,9 @@ returns-2 c =
     let counted = c .before .before .before .count-down in
     let run = counted .result in
     let a = c .before .before .before .before .args in
-    ap (noisePhaseAt (run .timer)) (single-step (a .narrow) (run .steps) _ _ (c .before .before .if1 .taken) (c .if2 .left) (c .before .step-one .ensures .0))
+    let one = c .before .step-one in
+    let if1 = c .before .before .if1 in
+    ap (noisePhaseAt (run .timer)) (single-step (a .narrow) (run .steps) _ _ (if1 .taken) (c .if2 .left) (one .ensures .0))
     ∙ noise-phase-ran (a .narrow) (a .reload) (a .self) (a .n) run (counted .ensures .0)
 
 returns-3 : tie.Need-returns-3

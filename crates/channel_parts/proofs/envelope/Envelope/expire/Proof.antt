@@ -5,13 +5,19 @@ use Rattle.channel_parts.specs.Envelope.{expired}
 use Rattle.channel_parts.proofs.envelope.Envelope.expire.Statement.{statement}
 use Rattle.channel_parts.proofs.envelope.Envelope.expire.Tie as tie
 
-pub expire-spec : {M : Type 1} → statement M
+returns : tie.Need-returns
 unfolding pick expired
-expire-spec =
-    tie.close
-    (tie.spec
-    (λ c κs. search needs)
-    (λ c κs. search needs)
-    (λ c κs. search needs)
-    (λ c. rw (c .step .ensures, ← (c .before .before .runs .ensures), c .before .if1 .taken, c .before .before .before .reload .ensures))
-    (λ c. rw (← (c .before .runs .ensures), c .if1 .left, c .before .before .reload .ensures)))
+returns c =
+    let runs = c .before .before .runs in
+    let reload = c .before .before .before .reload in
+    rw (c .step .ensures, ← (runs .ensures), c .before .if1 .taken, reload .ensures)
+
+returns-2 : tie.Need-returns-2
+unfolding pick expired
+returns-2 c =
+    let runs = c .before .runs in
+    let reload = c .before .before .reload in
+    rw (← (runs .ensures), c .if1 .left, reload .ensures)
+
+pub expire-spec : {M : Type 1} → statement M
+expire-spec = tie.close (tie.spec (λ c κs. search needs) (λ c κs. search needs) (λ c κs. search needs) returns returns-2)

@@ -16,15 +16,22 @@ count-down-requires c κs =
 
 add-t7 : tie.Need-add-t7
 add-t7 c =
-    omega (arith, c .before .before .count-down .ensures .1, c .before .before .before .before .pre .0 .position, c .before .before .before .before .pre .1 .1)
+    let run = c .before .before .count-down in
+    let start = c .before .before .before .before in
+    omega (arith, run .ensures .1, start .pre .0 .position, start .pre .1 .1)
 
 returns : tie.Need-returns
 returns c =
-    rw (c .before .before .before .if1 .taken) (pulse-phase-ran (c .before .before .before .before .args .self) (c .before .before .before .before .args .reload) (c .before .before .before .before .args .n) (c .before .before .count-down .result) (c .before .before .before .before .pre .0) (c .before .before .count-down .ensures .0))
+    let run = c .before .before .count-down in
+    let triggered = c .before .before .before .if1 .taken in
+    let start = c .before .before .before .before in
+    let a = start .args in
+    rw triggered (pulse-phase-ran (a .self) (a .reload) (a .n) (run .result) (start .pre .0) (run .ensures .0))
 
 returns-2 : tie.Need-returns-2
 returns-2 c =
-    rw (c .if1 .left) (sym (pulse-phase-stands (c .before .args .reload) (c .before .args .n) (c .before .args .self)))
+    let a = c .before .args in
+    rw (c .if1 .left) (sym (pulse-phase-stands (a .reload) (a .n) (a .self)))
 
 pub advance-spec : {M : Type 1} → statement M
 advance-spec =

@@ -15,7 +15,10 @@ sub-t7 c = search needs
 
 returns : tie.Need-returns
 unfolding triggered
-returns c = rw (c .before .before .before .before .sweep-trigger .ensures, c .before .before .before .before .before .before .trigger .ensures)
+returns c =
+    let sweep = c .before .before .before .before .sweep-trigger in
+    let envelope = c .before .before .before .before .before .before .trigger in
+    rw (sweep .ensures, envelope .ensures)
 
 pub trigger-spec : {M : Type 1} → statement M
 trigger-spec =

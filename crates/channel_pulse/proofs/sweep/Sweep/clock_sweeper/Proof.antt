@@ -14,11 +14,15 @@ expire-requires c κs = search needs
 
 returns : tie.Need-returns
 unfolding pick clocked
-returns c = rw (c .expire .ensures, ← (c .before .before .before .saturating-sub .ensures), eq-eqb _ _ (c .before .if1 .taken))
+returns c =
+    let less = c .before .before .before .saturating-sub in
+    rw (c .expire .ensures, ← (less .ensures), eq-eqb _ _ (c .before .if1 .taken))
 
 returns-2 : tie.Need-returns-2
 unfolding pick clocked
-returns-2 c = rw (← (c .before .before .saturating-sub .ensures), ne-eqb _ _ (c .if1 .left))
+returns-2 c =
+    let less = c .before .before .saturating-sub in
+    rw (← (less .ensures), ne-eqb _ _ (c .if1 .left))
 
 pub clock-sweeper-spec : {M : Type 1} → statement M
 clock-sweeper-spec =

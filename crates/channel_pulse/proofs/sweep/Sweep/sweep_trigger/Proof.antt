@@ -11,7 +11,10 @@ start-requires : tie.Need-start-requires
 start-requires c κs = search needs
 
 check-requires : tie.Need-check-requires
-check-requires c κs = rw (c .before .before .start .ensures) (sweep-started-held _ _ (c .before .before .before .pre .0) (c .before .before .before .pre .1))
+check-requires c κs =
+    let started = c .before .before .start in
+    let held = c .before .before .before .pre in
+    rw (started .ensures) (sweep-started-held _ _ (held .0) (held .1))
 
 returns : tie.Need-returns
 unfolding pick triggered
@@ -19,7 +22,9 @@ returns c = rw (eq-eqb _ _ (c .if1 .taken), c .before .before .start .ensures)
 
 returns-2 : tie.Need-returns-2
 unfolding pick triggered
-returns-2 c = rw (c .check .ensures, ne-eqb _ _ (c .before .if1 .left), c .before .before .before .start .ensures)
+returns-2 c =
+    let started = c .before .before .before .start in
+    rw (c .check .ensures, ne-eqb _ _ (c .before .if1 .left), started .ensures)
 
 pub sweep-trigger-spec : {M : Type 1} → statement M
 sweep-trigger-spec =

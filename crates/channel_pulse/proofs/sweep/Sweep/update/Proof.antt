@@ -8,12 +8,23 @@ use Rattle.channel_pulse.proofs.Ranges.{calculated-held}
 use Rattle.channel_pulse.proofs.sweep.Sweep.update.Statement.{statement}
 use Rattle.channel_pulse.proofs.sweep.Sweep.update.Tie as tie
 
-pub update-spec : {M : Type 1} → statement M
+store-requires : tie.Need-store-requires
+store-requires c κs =
+    let calculation = c .before .before .before .before .sweep-calculation in
+    let start = c .before .before .before .before .before in
+    (rw (calculation .ensures) (calculated-held _ (start .pre)), leb-true _ _ (and-left _ _ (c .if1 .taken)))
+
+returns : tie.Need-returns
 unfolding pick updated
-update-spec =
-    tie.close
-    (tie.spec
-    (λ c κs. search needs)
-    (λ c κs. (rw (c .before .before .before .before .sweep-calculation .ensures) (calculated-held _ (c .before .before .before .before .before .pre)), leb-true _ _ (and-left _ _ (c .if1 .taken))))
-    (λ c. rw (c .store .ensures, ← (c .before .before .before .before .before .sweep-calculation .ensures), c .before .if1 .taken))
-    (λ c. rw (← (c .before .before .before .before .sweep-calculation .ensures), c .if1 .left)))
+returns c =
+    let calculation = c .before .before .before .before .before .sweep-calculation in
+    rw (c .store .ensures, ← (calculation .ensures), c .before .if1 .taken)
+
+returns-2 : tie.Need-returns-2
+unfolding pick updated
+returns-2 c =
+    let calculation = c .before .before .before .before .sweep-calculation in
+    rw (← (calculation .ensures), c .if1 .left)
+
+pub update-spec : {M : Type 1} → statement M
+update-spec = tie.close (tie.spec (λ c κs. search needs) store-requires returns returns-2)

@@ -23,11 +23,17 @@ count-down-requires c κs =
 
 add-t6 : tie.Need-add-t6
 add-t6 c =
-    omega (arith, c .before .before .count-down .ensures .1, c .before .before .before .before .pre .0 .position, c .before .before .before .before .pre .1 .1)
+    let run = c .before .before .count-down in
+    let start = c .before .before .before .before in
+    omega (arith, run .ensures .1, start .pre .0 .position, start .pre .1 .1)
 
 returns-2 : tie.Need-returns-2
 returns-2 c =
-    wave-phase-ran (c .before .before .before .before .before .before .args .reload) (c .before .before .before .before .before .before .args .self) (c .before .before .before .before .before .before .args .n) (c .before .before .before .before .count-down .result) (c .before .before .before .before .before .before .pre .0) (c .before .before .before .before .before .if1 .left) (c .before .before .before .before .count-down .ensures .0)
+    let run = c .before .before .before .before .count-down in
+    let some = c .before .before .before .before .before .if1 .left in
+    let start = c .before .before .before .before .before .before in
+    let a = start .args in
+    wave-phase-ran (a .reload) (a .self) (a .n) (run .result) (start .pre .0) some (run .ensures .0)
 
 pub advance-spec : {M : Type 1} → statement M
 advance-spec =

@@ -11,7 +11,9 @@ nibble-at-requires : tie.Need-nibble-at-requires
 nibble-at-requires c κs = search needs
 
 shr-shifted : tie.Need-shr-shifted
-shr-shifted c = omega (arith, shift-le (c .before .before .args .self) (c .before .before .pre .0))
+shr-shifted c =
+    let start = c .before .before in
+    omega (arith, shift-le (start .args .self) (start .pre .0))
 
 returns : tie.Need-returns
 unfolding pick outputOf

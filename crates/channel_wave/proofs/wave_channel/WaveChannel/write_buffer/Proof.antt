@@ -13,18 +13,25 @@ enum-known-i : tie.Need-enum-known-i
 enum-known-i c = search needs
 
 element-write-next : tie.Need-element-write-next
-element-write-next c = rw (sym (c .before .before .before .wave-buffer-index .ensures) ∙ c .before .i .given .1) at (index-lands (c .before .before .before .before .args .self) (c .before .before .before .before .args .dmg) (c .before .before .before .before .args .offset))
+element-write-next c =
+    let index = c .before .before .before .wave-buffer-index in
+    let args = c .before .before .before .before .args in
+    rw (sym (index .ensures) ∙ c .before .i .given .1) at (index-lands (args .self) (args .dmg) (args .offset))
 
 enum-told : tie.Need-enum-told
 enum-told c = search needs
 
 returns : tie.Need-returns
 unfolding stored
-returns c = rw (sym (c .before .before .before .wave-buffer-index .ensures) ∙ c .before .i .given .1)
+returns c =
+    let index = c .before .before .before .wave-buffer-index in
+    rw (sym (index .ensures) ∙ c .before .i .given .1)
 
 returns-2 : tie.Need-returns-2
 unfolding stored
-returns-2 c = rw (sym (c .before .before .wave-buffer-index .ensures) ∙ c .enum-told .given .1)
+returns-2 c =
+    let index = c .before .before .wave-buffer-index in
+    rw (sym (index .ensures) ∙ c .enum-told .given .1)
 
 pub write-buffer-spec : {M : Type 1} → statement M
 write-buffer-spec =
