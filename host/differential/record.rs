@@ -7,34 +7,39 @@ use std::path::Path;
 /// An output longer than this is recorded by its digest.
 const SHORT: usize = 300;
 
-/// A case: kind, refusal, log length in two bytes, number in four, the log, then the bytes (kind 1) or their digest (kind 2). Kind 0 names a family.
-fn put(file: &mut impl Write, log: &[u8]) -> std::io::Result<()> {
-    let head = |kind: u8, refusal: u64, number: u64| {
-        let mut head = vec![kind, refusal as u8];
-        head.extend((log.len() as u16).to_be_bytes());
+/// A head of 24 bytes: kind, refusal, the log's length in two, then in four each the number returned, the output's length, frames, clock calls and records.
+fn head(kind: u8, refusal: u64, length: usize, numbers: [u64; 5]) -> Vec<u8> {
+    let mut head = vec![kind, refusal as u8];
+    head.extend((length as u16).to_be_bytes());
+    for number in numbers {
         head.extend((number as u32).to_be_bytes());
-        head
-    };
-    match original::play(log) {
+    }
+    head
+}
+
+/// A case: its head, the log, then the bytes (kind 1) or their digest (kind 2). The output is exactly as long as the bytes, and for a refusal there is none.
+fn put(file: &mut impl Write, log: &[u8]) -> std::io::Result<()> {
+    let answer = match original::play(log) {
         Err(refused) => {
-            file.write_all(&head(1, refused.0, refused.1))?;
-            file.write_all(log)
+            file.write_all(&head(1, refused.0, log.len(), [refused.1, 0, 0, 0, 0]))?;
+            return file.write_all(log);
         }
-        Ok(answer) if answer.bytes.len() <= SHORT => {
-            file.write_all(&head(1, 0, answer.bytes.len() as u64))?;
-            file.write_all(log)?;
-            file.write_all(&answer.bytes)
-        }
-        Ok(answer) => {
-            file.write_all(&head(2, 0, answer.bytes.len() as u64))?;
-            file.write_all(log)?;
-            file.write_all(&digest(&answer.bytes).to_be_bytes())
-        }
+        Ok(answer) => answer,
+    };
+    let (needed, short) = (answer.bytes.len() as u64, answer.bytes.len() <= SHORT);
+    let numbers = [needed, needed, answer.frames, answer.clocks, answer.records];
+    file.write_all(&head(if short { 1 } else { 2 }, 0, log.len(), numbers))?;
+    file.write_all(log)?;
+    if short {
+        file.write_all(&answer.bytes)
+    } else {
+        file.write_all(&digest(&answer.bytes).to_be_bytes())
     }
 }
 
+/// Kind 0 names a family.
 fn name(file: &mut impl Write, name: &str) -> std::io::Result<()> {
-    file.write_all(&[0, 0, 0, name.len() as u8, 0, 0, 0, 0])?;
+    file.write_all(&head(0, 0, name.len(), [0; 5]))?;
     file.write_all(name.as_bytes())
 }
 

@@ -1,18 +1,20 @@
-// Replays logs whose answers the original gave, and compares: a line for each family, and the total. `host/record` writes its standard input: a row of cases, each
-// with a head of eight bytes (kind, refusal, the log's length in two, the number returned in four), the log, and then
-// for kind 1 the output's bytes, for kind 2 a digest of them in eight; kind 0 names the family that follows, in place of a log.
+// Plays logs whose answers are known, and compares: a line for each family, and the total. Standard input is a row of cases: a head, which `expected` reads,
+// the log, and then for kind 1 the output's bytes, for kind 2 a digest of them in eight; kind 0 names the family that follows, in place of a log.
+// The first family has the answers of `host/make-answers`, from the rules; the others have the original's, by `host/record`.
 mod compare;
+mod expected;
 
-use compare::byte;
 use compare::digest_is;
 use compare::fill;
 use compare::starts_with;
 use compare::untouched;
-use compare::word;
+use expected::Case;
+use expected::answer_is;
+use expected::bytes_after;
+use expected::case_of;
+use expected::written;
 use log_player::log::play_log;
 use log_scan::answer::LogAnswer;
-use log_scan::answer::refusal;
-use log_scan::answer::returned;
 
 // Logs, bytes and differing logs of the family so far and of those before it; whether there is more to read.
 struct Tally {
@@ -108,13 +110,14 @@ fn counted(t: Tally, good: bool, bytes: u64) -> Tally {
     next
 }
 
-// Whether the output holds what the original wrote, by its bytes or their digest, and nothing past them was touched.
-fn output_is(kind: u8, want: &[u8], written: usize, out: &[u8]) -> bool {
-    let rest = untouched(out, written);
-    if kind == 2 {
-        return rest & digest_is(out, written, want);
+// Whether the output holds the bytes of the case, by themselves or their digest, and nothing past them was touched.
+fn output_is(case: Case, want: &[u8], out: &[u8]) -> bool {
+    let end = written(case);
+    let rest = untouched(out, end);
+    if case.kind == 2 {
+        return rest & digest_is(out, end, want);
     }
-    rest & starts_with(out, want, written)
+    rest & starts_with(out, want, end)
 }
 
 // The log played in an output of so many bytes.
@@ -127,63 +130,36 @@ fn answer_of(log: &[u8], length: usize, room: usize, out: &mut [u8]) -> LogAnswe
     LogAnswer::TooLong
 }
 
-// The output's length: exactly what the original wrote, and none for a refusal.
-fn room_of(refused: u8, number: u64) -> usize {
-    if refused == 0 { number as usize } else { 0 }
-}
-
 // Plays the log and compares everything that it answers.
-fn replayed(head: &[u8], log: &[u8], length: usize, want: &[u8], out: &mut [u8]) -> bool {
+fn replayed(case: Case, log: &[u8], want: &[u8], out: &mut [u8]) -> bool {
     fill(out);
-    let refused = byte(head, 1);
-    let number = word(head, 4);
-    let room = room_of(refused, number);
-    let answer = answer_of(log, length, room, out);
-    let same = (refusal(answer) == refused as u64) & (returned(answer) == number);
-    same & output_is(byte(head, 0), want, room, out)
+    let answer = answer_of(log, case.length, case.room, out);
+    let answered = answer_is(case, answer);
+    answered & output_is(case, want, out)
 }
 
-// How many bytes of a recorded answer follow the log.
-fn answer_length(kind: u8, refused: u8, number: u64) -> usize {
-    if kind == 2 {
-        return 8;
-    }
-    room_of(refused, number)
-}
-
-fn read_answer(
-    t: Tally,
-    head: &[u8],
-    log: &[u8],
-    length: usize,
-    want: &mut [u8],
-    out: &mut [u8],
-) -> Tally {
-    let refused = byte(head, 1);
-    let number = word(head, 4);
-    let bytes = answer_length(byte(head, 0), refused, number);
-    if read_part(want, bytes) {
-        let good = replayed(head, log, length, want, out);
-        return counted(t, good, room_of(refused, number) as u64);
+fn read_answer(t: Tally, case: Case, log: &[u8], want: &mut [u8], out: &mut [u8]) -> Tally {
+    if read_part(want, bytes_after(case)) {
+        let good = replayed(case, log, want, out);
+        return counted(t, good, written(case) as u64);
     }
     ended(t)
 }
 
-fn read_log(t: Tally, head: &[u8], log: &mut [u8], want: &mut [u8], out: &mut [u8]) -> Tally {
-    let length = (byte(head, 2) as usize) * 256 + byte(head, 3) as usize;
-    if read_part(log, length) {
-        if byte(head, 0) == 0 {
-            return next_family(t, log, length);
+fn read_log(t: Tally, case: Case, log: &mut [u8], want: &mut [u8], out: &mut [u8]) -> Tally {
+    if read_part(log, case.length) {
+        if case.kind == 0 {
+            return next_family(t, log, case.length);
         }
-        return read_answer(t, head, log, length, want, out);
+        return read_answer(t, case, log, want, out);
     }
     ended(t)
 }
 
 // The next case, a family's name or the end.
 fn step(t: Tally, head: &mut [u8], log: &mut [u8], want: &mut [u8], out: &mut [u8]) -> Tally {
-    if read_part(head, 8) {
-        return read_log(t, head, log, want, out);
+    if read_part(head, 24) {
+        return read_log(t, case_of(head), log, want, out);
     }
     ended(t)
 }
@@ -210,7 +186,7 @@ fn replay(head: &mut [u8], log: &mut [u8], want: &mut [u8], out: &mut [u8]) {
 }
 
 fn main() {
-    let mut head = [0u8; 8];
+    let mut head = [0u8; 24];
     let mut log = io::large_buffer();
     let mut want = io::large_buffer();
     let mut out = io::large_buffer();
