@@ -10,6 +10,7 @@ ghost use Rattle.apu.specs.Registers.{statusByte, byteAt, readOf, pcm12O
 use crate::Apu;
 use clocks::position::next_position;
 use ground::num::flag;
+use ground::num::is_sound;
 
 // What a read answers: the byte, or refusal 1.
 pub enum Read {
@@ -90,7 +91,7 @@ impl Apu {
     pub fn read_register(self, addr: u16) -> Read
         ensures { λ r. ⌜ (r ≡ readOf self addr) × (refusalOfRead r ≡ pick (isSound addr) 0 1) × (returnedOfRead r ≡ pick (isSound addr) (byteAt self (addr - 0xFF10)) 0) ⌝ }
     {
-        if (0xFF10 <= addr) & (addr <= 0xFF3F) {
+        if is_sound(addr) {
             Read::Byte(self.byte_at(addr - 0xFF10))
         } else {
             Read::WrongAddress
@@ -306,7 +307,7 @@ impl Apu {
         ensures { λ r. ⌜ (r ≡ writeOf self addr value) × (refusalOfWrite (r .answer) ≡ pick (isSound addr) 0 1) × (returnedOfWrite (r .answer) ≡ 0) ⌝ }
         ensures { λ r. ⌜ Held (r .apu) × (FloatsHeld self → FloatsHeld (r .apu)) ⌝ }
     {
-        if (0xFF10 <= addr) & (addr <= 0xFF3F) {
+        if is_sound(addr) {
             let next = self.write_at(addr - 0xFF10, value);
             Written {
                 answer: Write::Done,

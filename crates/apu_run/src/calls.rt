@@ -4,7 +4,6 @@ ghost use mathlib.Core.Path.{_≡_};
 ghost use Prim.Native.Nat.{_+_, _-_, _≤_, _/_, _%_};
 ghost use lib.ListN.{length};
 ghost use lib.Seq.{sets};
-ghost use Rattle.clocks.specs.Metered.{gained};
 ghost use Rattle.apu.specs.Held.{Held, FloatsHeld};
 ghost use Rattle.apu_run.specs.Working.{ranOf};
 ghost use Rattle.apu_run.specs.Calls.{dividerAt, clocksBytes, afterClocks, further};
@@ -16,6 +15,7 @@ use crate::phases::put_back;
 use apu::Apu;
 use apu_clock::sequencer::advance;
 use apu_clock::sequencer::sequencer_bit;
+use clocks::sample_counter::half_clocks_of;
 
 // The unit, and the place of the output's next byte.
 pub struct Play {
@@ -70,19 +70,6 @@ pub fn same_bit(double: bool, divider: Divider, i: u16, count: u16) -> u16
     count
 }
 
-// The half-clocks of so many calls.
-fn half_clocks_of(double: bool, count: u16) -> u32
-    requires { ⌜ count ≤ 16384 ⌝ }
-    ensures { λ r. ⌜ r ≡ gained double count ⌝ }
-    ensures { λ r. ⌜ r ≤ 32768 ⌝ }
-{
-    if double {
-        count as u32
-    } else {
-        count as u32 * 2
-    }
-}
-
 // How calls that see one divider bit meet the unit: the half-clocks left, the working clocks, and what the first of those does to the stored bit.
 // Numbers only, so that the unit stays where it is.
 pub struct Met {
@@ -97,7 +84,7 @@ pub fn meet(half: u8, power: bool, stored: bool, double: bool, bit: bool, count:
     requires { ⌜ count ≤ 16384 ⌝ }
     ensures { λ r. ⌜ r ≡ metOf half power stored double bit count ⌝ }
 {
-    let halves = half as u32 + half_clocks_of(double, count);
+    let halves = half as u32 + half_clocks_of(double, count as u32);
     let working = halves / 2;
     let seen = power & (working != 0);
     Met {

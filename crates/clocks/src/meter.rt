@@ -2,7 +2,8 @@
 ghost use mathlib.Core.Path.{_≡_};
 ghost use Prim.Native.Nat.{_≤_, min};
 ghost use Rattle.clocks.specs.Calls.{K};
-ghost use Rattle.clocks.specs.Metered.{Held, gained, fresh, metered, framesOf};
+ghost use Rattle.clocks.specs.Metered.{Held, fresh, metered, framesOf};
+use crate::sample_counter::half_clocks_of;
 
 // What a working clock adds: 2^48 units of 2^-48.
 pub const CLOCK_UNITS: u64 = 281474976710656;
@@ -20,15 +21,6 @@ pub struct Meter {
 pub struct Metered {
     pub frames: u64,
     pub meter: Meter,
-}
-
-// The half-clocks of so many clock calls at one speed.
-fn gain(double: bool, count: u64) -> u64
-    requires { ⌜ count ≤ 16384 ⌝ }
-    ensures { λ r. ⌜ r ≡ gained double count ⌝ }
-    ensures { λ r. ⌜ r ≤ 32768 ⌝ }
-{
-    if double { count } else { count * 2 }
 }
 
 // The smaller of two numbers.
@@ -52,7 +44,7 @@ impl Meter {
         requires { ⌜ count ≤ 16384 ⌝ }
         ensures { λ r. ⌜ r ≡ metered 48 K self double count ⌝ }
     {
-        let halves = self.half + gain(double, count);
+        let halves = self.half + half_clocks_of(double, count as u32) as u64;
         let total = self.rest + halves / 2 * CLOCK_UNITS;
         Metered {
             frames: total / FRAME_UNITS,

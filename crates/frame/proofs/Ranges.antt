@@ -4,9 +4,9 @@ use mathlib.Core.Path.{_≡_, refl, sym, ap, _∙_, subst}
 use mathlib.Core.Logic.{_⊎_, inl, inr}
 use mathlib.Core.Bool.{Bool, true, false, not, _&&_}
 use Prim.Native.Nat.{ℕ, zero, suc, _+_, _-_, _*_, _^_, _≤_, _<_, zero-le}
-use native.Mathlib.Nat.{le-trans, lt-of-le-of-lt, not-le-of-lt, le-of-suc-le-suc, eq-or-lt-of-le, sub-le, mul-one, mul-le-mul-right}
+use native.Mathlib.Nat.{le-trans, lt-of-le-of-lt, not-le-of-lt, le-of-suc-le-suc, eq-or-lt-of-le, sub-le, sub-zero, zero-add, mul-one, mul-le-mul-right}
 use native.Mathlib.Omega.{arith}
-use lib.Dec.{T, leb, ltb, leb→le, ltb→lt, nltb→le, lit<, lit≤}
+use lib.Dec.{T, leb, ltb, eqb, eqb→eq, leb→le, ltb→lt, nltb→le, lit<, lit≤}
 use lib.Pow.{pow-pos}
 use lib.IntN.{pos}
 use lib.Ieee.{Float, nan, inf, fin, binary32, size, unlike, round, sum, sub, mul, ofInt, ofBits}
@@ -17,7 +17,7 @@ use lib.Ieee.Exact.{HasValue}
 use lib.Ieee.Back.{round-whole}
 use lib.Ieee.Scale.{grid, overflow}
 use Rattle.frame.specs.Converter.{f0, f15, keep, inOf, outOf, charged, fresh, stepped}
-use Rattle.frame.specs.Held.{unitsOfOne, Charge, Held, Within}
+use Rattle.frame.specs.Held.{unitsOfOne, Charge, Held, Drained, Within}
 use Rattle.frame.specs.declared.converter.Converter.{Converter}
 use Rattle.ground.proofs.Rounded.{grid-le, rounded, plus-sum, up-sum, down-sum, sub-is, mul-is, div-is}
 
@@ -235,3 +235,40 @@ pub stepped-within : (d : Converter) (o : ℕ) (muted : Bool) → o ≤ 15 → H
 unfolding stepped
 stepped-within d o true h C = silent
 stepped-within d o false h C = out-within (d .capacitor) (C .charge) o h
+
+-- ---- output 0 drains a capacitor, but never empties it: one unit stays one unit, and so do up to 124, since 0.004 times them is less than half a unit
+no-input : input 0 ≡ 0
+unfolding input size
+no-input = refl
+
+one-snapped : 1 ≤ snap 1
+unfolding snap size
+one-snapped = lit≤ tt
+
+one-scaled : 1 ≤ scaled 1
+unfolding scaled size
+one-scaled = lit≤ tt
+
+some-left : (k : ℕ) → 0 < k → 0 < snap (scaled (snap k))
+some-left k h =
+    let g : 1 ≤ snap k = le-trans one-snapped (snap-le 1 k h) in
+    let p : 1 ≤ scaled (snap k) = le-trans one-scaled (scaled-le 1 (snap k) g) in
+    le-trans one-snapped (snap-le 1 (scaled (snap k)) p)
+
+few-stay : (k : ℕ) → k ≤ 124 → snap (scaled (snap k)) ≡ k
+unfolding snap scaled size
+few-stay k h =
+    eqb→eq (snap (scaled (snap k))) k (below 125 (λ (n : ℕ). eqb (snap (scaled (snap n))) n) tt k (lt-of-le-of-lt h (lit< tt)))
+
+pub drained : (d : Converter) (C : Charge (d .capacitor)) → 0 < C .units → Drained (C .units) (stepped d 0 false .converter .capacitor)
+unfolding stepped next-down
+drained d C h =
+    let k = C .units in
+    let n = next-down (d .capacitor) C 0 zero-le (rw no-input h) in
+    let is : n .units ≡ snap (scaled (snap k)) = rw (no-input, sub-zero k) (ap (λ (x : ℕ). snap x) (zero-add (scaled (snap k)))) in
+    record {
+      units = n .units;
+      is = n .is;
+      some = rw is (some-left k h);
+      same = λ (l : k ≤ 124). is ∙ few-stay k l;
+    }

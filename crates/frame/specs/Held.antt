@@ -1,5 +1,6 @@
 -- The ranges of a frame's floats, over whole numbers of 2 ^ -149, the smallest f32 above zero. No register or clock call asks them. Assumes nothing.
-use Prim.Native.Nat.{ℕ, _*_, _^_, _≤_}
+use mathlib.Core.Path.{_≡_}
+use Prim.Native.Nat.{ℕ, _*_, _^_, _≤_, _<_}
 use mathlib.Core.Bool.{false, not}
 use lib.Dec.{T}
 use lib.Ieee.{Float, binary32, fits, isNan}
@@ -26,6 +27,13 @@ pub record Charge (c : Float) : Type 0 where
 pub record Held (d : Converter) : Type 0 where
   pub single : T (fits binary32 (d .capacitor))
   pub charge : Charge (d .capacitor)
+
+-- what a capacitor of k units becomes while output 0 drains it: some units are left, and up to 124 all of them ("Subnormals are kept")
+pub record Drained (k : ℕ) (c : Float) : Type 0 where
+  pub units : ℕ
+  pub is : HasValue c false units unitsOfOne
+  pub some : 0 < units
+  pub same : k ≤ 124 → units ≡ k
 
 -- x is finite and, whatever its sign, exactly so many units in size, no more than k
 pub record Within (k : ℕ) (x : Float) : Type 0 where

@@ -1,7 +1,7 @@
 // Helpers on small numbers: what the Rust takes from the standard library or writes as a mask.
 ghost use mathlib.Core.Path.{_≡_};
 ghost use Prim.Native.Nat.{_-_, _≤_};
-ghost use Rattle.ground.specs.Num.{zeroAsEight};
+ghost use Rattle.ground.specs.Num.{zeroAsEight, isSound};
 ghost use Rattle.ground.specs.Pick.{pick};
 
 // The difference, and not below 0.
@@ -47,4 +47,11 @@ pub fn reload(period: u8) -> u8
     ensures { λ r. ⌜ r ≡ zeroAsEight period ⌝ }
 {
     if period == 0 { 8 } else { period }
+}
+
+// Whether an address is the sound unit's: FF10 to FF3F.
+pub fn is_sound(addr: u16) -> bool
+    ensures { λ r. ⌜ r ≡ isSound addr ⌝ }
+{
+    (0xFF10 <= addr) & (addr <= 0xFF3F)
 }

@@ -4,6 +4,7 @@ ghost use Prim.Native.Nat.{_+_, _<_};
 ghost use lib.ListN.{length};
 ghost use Rattle.log_records.specs.Judge.{word, writeOf, readOf, clockOf, pcmOf, judgeOf, noClocks, clocksOf};
 ghost use Rattle.log_records.specs.Records.{clocksAt};
+use ground::num::is_sound;
 
 // What a record's body says.
 pub enum Record {
@@ -43,7 +44,7 @@ fn judge_write(body: &[u8]) -> Record
 {
     if body.len() == 4 {
         let addr = word_at(body, 1);
-        if (0xFF10 <= addr) & (addr <= 0xFF3F) {
+        if is_sound(addr) {
             return Record::Write {
                 addr,
                 value: body[3],
@@ -59,7 +60,7 @@ fn judge_read(body: &[u8]) -> Record
 {
     if body.len() == 3 {
         let addr = word_at(body, 1);
-        if (0xFF10 <= addr) & (addr <= 0xFF3F) {
+        if is_sound(addr) {
             return Record::Read { addr };
         }
     }

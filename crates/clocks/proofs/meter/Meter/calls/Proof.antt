@@ -4,13 +4,15 @@ use Rattle.clocks.proofs.meter.Meter.calls.Statement.{statement}
 use Rattle.clocks.proofs.meter.Meter.calls.Tie as tie
 
 returns : tie.Need-returns
-returns c = rw (c .before .before .gain .ensures .0)
+returns c = rw (c .before .before .half-clocks-of .ensures .0)
 
 pub calls-spec : {M : Type 1} → statement M
 calls-spec =
     tie.close
     (tie.spec
+    (λ c. search needs)
     (λ c κs. search needs)
+    (λ c. search needs)
     (λ c. search needs)
     (λ c. search needs)
     (λ c. search needs)
