@@ -171,7 +171,8 @@ silent-sum : sum4 f0 f0 f0 f0 ≡ f0
 unfolding ofBits add
 silent-sum = refl
 
-pub frame-step-silent : (a : Apu) (m : Phases) (k : Converters) → silentOf a ≡ true → frameStepOf (settingsOf a) m k ≡ record { converters = k; mix = silent.silence }
+pub frame-step-silent : (a : Apu) (m : Phases) (k : Converters) → silentOf a ≡ true
+    → frameStepOf (settingsOf a) m k ≡ record { converters = k; mix = silent.silence }
 unfolding frameStepOf mixed
 frame-step-silent a m k e =
     let control : ℕ = a .«channels_control» in

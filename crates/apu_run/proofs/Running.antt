@@ -270,7 +270,9 @@ module _ {r : Task} {s : State} {m : Phases} {f : FrameStep} (v : Framed r s m f
   bytes-long = length-append (before .bytes) (mixItem (f .mix)) ∙ ap (λ (n : ℕ). length (before .bytes) + n) (item-long (f .mix))
 
   onward : from (r .settings) (s .left - s .due) later 1 m (f .converters) bytes ≡ whole r
-  onward = go (s .due) f (before .next) (v .due) (v .moved .is ∙ ap (λ (n : ℕ). iterate (s .pending + n) (phasesClocked (r .settings)) (s .phases)) to-due) (v .is)
+  onward =
+      let moved = v .moved .is ∙ ap (λ (n : ℕ). iterate (s .pending + n) (phasesClocked (r .settings)) (s .phases)) to-due in
+      go (s .due) f (before .next) (v .due) moved (v .is)
     where
       to-due : ahead s ≡ s .due - 1
       to-due = pick-true _ _ _ (le-leb (s .due) (s .left) (v .due))

@@ -1,4 +1,5 @@
--- The clock calls of a record: the bytes that they make and the unit after them, from document 01, "Steps of a clock call" and "The access log". Assumes nothing.
+-- The clock calls of a record: the bytes that they make and the unit after them, from document 01, "Steps of a clock call" and
+-- "The access log". Assumes nothing.
 use Prim.Native.Nat.{ℕ, zero, suc, _+_, _/_, _%_}
 use mathlib.Core.Bool.{Bool, false}
 use mathlib.Core.List.{List, [], _∷_, _++_}

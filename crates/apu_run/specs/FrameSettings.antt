@@ -1,5 +1,6 @@
 -- A frame in two halves: what a run's settings give to each of its frames, and the frame from those and from what moves, both arms of each choice worked
--- out. For the code and its proof alone: what a frame is, `frameStepOf` says (and that the two halves are it: `by-frame-settings` of proofs/FrameSteps.antt). Assumes nothing.
+-- out. For the code and its proof alone: what a frame is, `frameStepOf` says (and that the two halves are it: `by-frame-settings` of
+-- proofs/FrameSteps.antt). Assumes nothing.
 use Prim.Native.Nat.{ℕ, _+_, _-_, _*_, _/_, _%_, _^_, _≤_}
 use mathlib.Core.Bool.{Bool, not, _&&_}
 use mathlib.Core.List.{List}

@@ -5,5 +5,5 @@ pub mod Rows  -- a row of calls on a unit, and how its clocks see them
 pub mod Rates  -- other sample rates
 pub mod Metered  -- frames by whole numbers
 pub mod Position  -- the sequencer's position
--- ---- for the code and its proofs alone, no rule
+-- ---- for speed and its proofs alone: no rule is said in these words, and no promise to who calls the unit or plays a log
 pub mod Distance  -- how far the next frame is

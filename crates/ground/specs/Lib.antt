@@ -7,4 +7,5 @@ pub mod Pick  -- a choice by a test
 pub mod Num  -- rules on small numbers
 pub mod Units  -- floats as whole numbers of a unit
 pub mod Iterate  -- a rule put to use so many times
+-- ---- for speed and its proofs alone: no rule is said in these words, and no promise to who calls the unit or plays a log
 pub mod Timer  -- many clocks of a timer

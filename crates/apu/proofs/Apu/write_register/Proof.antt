@@ -24,9 +24,10 @@ taken c =
     let start = test .before in
     let a = start .args in
     let sound = sym (test .is-sound .ensures) ∙ c .before .if1 .taken in
-    let w : Written = record { answer = Done; apu = c .write-at .result } in
-    ((rw (c .write-at .ensures, sound), rw sound, refl),
-    write-given (a .self) (a .addr) (a .value) w (omega arith) (start .pre) (rw (c .write-at .ensures, sound)))
+    let w : Written = record { answer = Done; apu = c .write-at .result } in (
+      (rw (c .write-at .ensures, sound), rw sound, refl),
+      write-given (a .self) (a .addr) (a .value) w (omega arith) (start .pre) (rw (c .write-at .ensures, sound)),
+    )
 
 refused : tie.Need-returns-2
 unfolding pick writeOf

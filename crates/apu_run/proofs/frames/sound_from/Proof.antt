@@ -15,7 +15,7 @@ use Rattle.apu_run.proofs.frames.sound_from.Statement.{statement}
 use Rattle.apu_run.proofs.frames.sound_from.Tie as tie
 
 abbrev Inv-loop : tie.InvT-loop
-Inv-loop ahead count waiting out₀ start settings frameSettings ram phases₀ converters₀ units₀ due₀ left₀ at₀ pending₀ out phases converters units due left at pending =
+Inv-loop ahead count waiting out₀ start settings each ram phases₀ converters₀ units₀ due₀ left₀ at₀ pending₀ out phases converters units due left at pending =
     Running
     (record {
       ahead = ahead;
@@ -24,14 +24,14 @@ Inv-loop ahead count waiting out₀ start settings frameSettings ram phases₀ c
       out = out₀;
       start = start;
       settings = settings;
-      frameSettings = frameSettings;
+      frameSettings = each;
       phases = phases₀;
       converters = converters₀;
     })
     (record { out = out; phases = phases; converters = converters; units = units; due = due; left = left; at = at; pending = pending })
 
 abbrev μ-loop : tie.MeasureT-loop
-μ-loop ahead count waiting out₀ start settings frameSettings ram phases₀ converters₀ units₀ due₀ left₀ at₀ pending₀ out phases converters units due left at pending =
+μ-loop ahead count waiting out₀ start settings each ram phases₀ converters₀ units₀ due₀ left₀ at₀ pending₀ out phases converters units due left at pending =
     left
 
 phases-of-requires : tie.Need-phases-of-requires Inv-loop μ-loop
@@ -56,7 +56,8 @@ loop-holds c =
     let pre = start .pre in
     let room = rw (ap (λ (t : Take). length (t .bytes)) (behind-ran u (start .args .count) (start .args .ahead) (start .args .waiting))) at (pre .1 .1 .1 .1) in
     rw (phases-of .ensures, converters-of .ensures, frame-settings-of .ensures, settings-of .ensures)
-    (running-first (settings-held u (pre .0)) refl (phases-held u (pre .0)) (converters-held u (pre .1 .0)) (pre .1 .1 .0) (until .ensures) (pre .1 .1 .1 .0) room)
+    (running-first (settings-held u (pre .0)) refl (phases-held u (pre .0)) (converters-held u (pre .1 .0))
+    (pre .1 .1 .0) (until .ensures) (pre .1 .1 .1 .0) room)
 
 add-advance : tie.Need-add-advance Inv-loop μ-loop
 add-advance c =
