@@ -23,7 +23,11 @@ unfolding ofBits round
 bits-zero = refl
 
 zero-kept : Kept 48 K (ofBits binary64 0)
-zero-kept = record { units = 0; below = lit< tt; is = bits-zero ∙ sym (unfold unitsOf in round-same binary64 false 0 (2 ^ 48) 0 1 (pow-pos 48) (lit< tt) (sym (zero-mul (2 ^ 48)))) }
+zero-kept = record {
+  units = 0;
+  below = lit< tt;
+  is = bits-zero ∙ sym (unfold unitsOf in round-same binary64 false 0 (2 ^ 48) 0 1 (pow-pos 48) (lit< tt) (sym (zero-mul (2 ^ 48))));
+}
 
 pub new-floats : (dmg : Bool) → FloatsHeld (start.fresh dmg)
 unfolding start.fresh

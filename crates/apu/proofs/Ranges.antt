@@ -19,9 +19,11 @@ use Rattle.channel_groups.proofs.Ranges.{pulse-group-fresh-held, wave-group-fre
 use Rattle.channel_groups.proofs.Ranges as group
 use Rattle.clocks.specs.Position.{PositionHeld}
 use Rattle.apu.specs.Held.{Held}
-use Rattle.apu.specs.With.{withPulse1, withPulse2, withWave, withNoise, withGroups, withControl, withSelection, withPower, withClocks, withBit, withPosition}
+use Rattle.apu.specs.With.{withPulse1, withPulse2, withWave, withNoise, withGroups}
+use Rattle.apu.specs.With.{withControl, withSelection, withPower, withClocks, withBit, withPosition}
 use Rattle.apu.specs.Start as start
-use Rattle.apu.specs.Registers.{soundWritten, gatedWritten, ramWritten, zeroed, silenced, poweredOff, restarted, refilled, poweredOn, powerWritten, writtenAt, writeOf}
+use Rattle.apu.specs.Registers.{soundWritten, gatedWritten, ramWritten, powerWritten, writtenAt, writeOf}
+use Rattle.apu.specs.Registers.{zeroed, silenced, poweredOff, restarted, refilled, poweredOn}
 use Rattle.apu.specs.declared.Apu.{Apu}
 use Rattle.apu.specs.declared.registers.Written.{Written}
 use lib.Ieee.{Float}
@@ -41,9 +43,10 @@ new-held dmg =
 
 booted-held : pulse.Held (start.booted pulse.fresh)
 booted-held =
+    let envelope = envelope-written-held (channel.fresh .envelope) 0xF3 (lit≤ tt) in
     record {
       length = pulse-group-fresh-held .length;
-      channel = pulse-on-held _ (pulse-duty-held _ (pulse-envelope-held channel.fresh pulse-fresh-held _ (envelope-written-held (channel.fresh .envelope) 0xF3 (lit≤ tt))) 2) true;
+      channel = pulse-on-held _ (pulse-duty-held _ (pulse-envelope-held channel.fresh pulse-fresh-held _ envelope) 2) true;
     }
 
 pub skipped-held : (dmg : Bool) → Held (start.skipped dmg)
@@ -121,7 +124,11 @@ silenced-held : (a : Apu) → Held a → Held (silenced a)
 unfolding silenced
 silenced-held a h =
     power-held _
-    (groups-held a h _ _ _ _ (group.pulse-silenced-held (a .pulse1) (h .pulse1)) (group.pulse-silenced-held (a .pulse2) (h .pulse2)) (group.wave-silenced-held (a .wave) (h .wave)) (group.noise-silenced-held (a .noise) (h .noise)))
+    (groups-held a h _ _ _ _
+    (group.pulse-silenced-held (a .pulse1) (h .pulse1))
+    (group.pulse-silenced-held (a .pulse2) (h .pulse2))
+    (group.wave-silenced-held (a .wave) (h .wave))
+    (group.noise-silenced-held (a .noise) (h .noise)))
     false
 
 restarted-held : (a : Apu) → Held a → Held (restarted a)
@@ -129,14 +136,22 @@ unfolding restarted
 restarted-held a h =
     power-held _
     (position-held _
-    (groups-held a h _ _ _ _ (group.pulse-rewound-held (a .pulse1) (h .pulse1)) (group.pulse-rewound-held (a .pulse2) (h .pulse2)) (group.wave-rewound-held (a .wave) (h .wave)) (h .noise))
+    (groups-held a h _ _ _ _
+    (group.pulse-rewound-held (a .pulse1) (h .pulse1))
+    (group.pulse-rewound-held (a .pulse2) (h .pulse2))
+    (group.wave-rewound-held (a .wave) (h .wave))
+    (h .noise))
     _ (both-ways PositionHeld (a .«divider_sequencer_clock_bit») refl (omega arith)))
     true
 
 refilled-held : (a : Apu) → Held a → Held (refilled a)
 unfolding refilled
 refilled-held a h =
-    groups-held a h _ _ _ _ (group.pulse-refilled-held (a .pulse1) (h .pulse1)) (group.pulse-refilled-held (a .pulse2) (h .pulse2)) (group.wave-refilled-held (a .wave) (h .wave)) (group.noise-refilled-held (a .noise) (h .noise))
+    groups-held a h _ _ _ _
+    (group.pulse-refilled-held (a .pulse1) (h .pulse1))
+    (group.pulse-refilled-held (a .pulse2) (h .pulse2))
+    (group.wave-refilled-held (a .wave) (h .wave))
+    (group.noise-refilled-held (a .noise) (h .noise))
 
 power-written-held : (a : Apu) (v : ℕ) → Held a → Held (powerWritten a v)
 unfolding powerWritten poweredOn poweredOff

@@ -5,8 +5,13 @@ use Rattle.ground.proofs.Cases.{both-ways}
 use Rattle.channel_groups.specs.PulseGroups as pulse
 use Rattle.channel_groups.specs.WaveGroups as wave
 use Rattle.channel_groups.specs.NoiseGroups as noise
+use Rattle.channel_groups.specs.declared.pulse_group.PulseGroup.{PulseGroup}
+use Rattle.channel_groups.specs.declared.wave_group.WaveGroup.{WaveGroup}
+use Rattle.channel_groups.specs.declared.noise_group.NoiseGroup.{NoiseGroup}
 use Rattle.channel_groups.proofs.Untouched.{pulse-untouched, wave-untouched, noise-untouched}
-use Rattle.apu.specs.Registers.{soundWritten, gatedWritten, ramWritten, zeroed, silenced, poweredOff, restarted, refilled, poweredOn, powerWritten, writtenAt, writeOf}
+use Rattle.apu.specs.Registers.{soundWritten, gatedWritten, ramWritten, powerWritten, writtenAt, writeOf}
+use Rattle.apu.specs.Registers.{zeroed, silenced, poweredOff, restarted, refilled, poweredOn}
+use Rattle.apu.specs.With.{withPulse1, withPulse2, withWave, withNoise, withControl, withSelection}
 use Rattle.apu.specs.declared.Apu.{Apu}
 use Rattle.apu.specs.declared.registers.Written.{Written}
 
@@ -31,15 +36,35 @@ then p q = record {
   noise = q .noise ∙ p .noise;
 }
 
+-- ---- one group written anew, with its converter as it was
+module _ (a : Apu) where
+  first : (g : PulseGroup) → g .converter ≡ a .pulse1 .converter → Untouched a (withPulse1 a g)
+  first g e = record { half = refl; counter = refl; pulse1 = e; pulse2 = refl; wave = refl; noise = refl }
+
+  second : (g : PulseGroup) → g .converter ≡ a .pulse2 .converter → Untouched a (withPulse2 a g)
+  second g e = record { half = refl; counter = refl; pulse1 = refl; pulse2 = e; wave = refl; noise = refl }
+
+  third : (g : WaveGroup) → g .converter ≡ a .wave .converter → Untouched a (withWave a g)
+  third g e = record { half = refl; counter = refl; pulse1 = refl; pulse2 = refl; wave = e; noise = refl }
+
+  fourth : (g : NoiseGroup) → g .converter ≡ a .noise .converter → Untouched a (withNoise a g)
+  fourth g e = record { half = refl; counter = refl; pulse1 = refl; pulse2 = refl; wave = refl; noise = e }
+
+  selected : (v : ℕ) → Untouched a (withSelection a v)
+  selected v = record { half = refl; counter = refl; pulse1 = refl; pulse2 = refl; wave = refl; noise = refl }
+
+  controlled : (v : ℕ) → Untouched a (withControl a v)
+  controlled v = record { half = refl; counter = refl; pulse1 = refl; pulse2 = refl; wave = refl; noise = refl }
+
 sound : (a : Apu) (at v : ℕ) → Untouched a (soundWritten a at v)
 unfolding soundWritten pulse.sweepWritten
 sound a at v =
-    both-ways (Untouched a) _ (record { half = refl; counter = refl; pulse1 = refl; pulse2 = refl; wave = refl; noise = refl })
-    (both-ways (Untouched a) _ (record { half = refl; counter = refl; pulse1 = pulse-untouched (a .pulse1) at (a .power) _ v; pulse2 = refl; wave = refl; noise = refl })
-    (both-ways (Untouched a) _ (record { half = refl; counter = refl; pulse1 = refl; pulse2 = pulse-untouched (a .pulse2) (at - 5) (a .power) _ v; wave = refl; noise = refl })
-    (both-ways (Untouched a) _ (record { half = refl; counter = refl; pulse1 = refl; pulse2 = refl; wave = wave-untouched (a .wave) (at - 10) (a .«is_dmg») _ v; noise = refl })
-    (both-ways (Untouched a) _ (record { half = refl; counter = refl; pulse1 = refl; pulse2 = refl; wave = refl; noise = noise-untouched (a .noise) (at - 15) _ v })
-    (both-ways (Untouched a) _ (record { half = refl; counter = refl; pulse1 = refl; pulse2 = refl; wave = refl; noise = refl }) (record { half = refl; counter = refl; pulse1 = refl; pulse2 = refl; wave = refl; noise = refl }))))))
+    both-ways (Untouched a) _ (first a _ refl)
+    (both-ways (Untouched a) _ (first a _ (pulse-untouched (a .pulse1) at (a .power) _ v))
+    (both-ways (Untouched a) _ (second a _ (pulse-untouched (a .pulse2) (at - 5) (a .power) _ v))
+    (both-ways (Untouched a) _ (third a _ (wave-untouched (a .wave) (at - 10) (a .«is_dmg») _ v))
+    (both-ways (Untouched a) _ (fourth a _ (noise-untouched (a .noise) (at - 15) _ v))
+    (both-ways (Untouched a) _ (controlled a v) (selected a v))))))
 
 zeroes : (a : Apu) (n : ℕ) → Untouched a (zeroed a n)
 unfolding zeroed
@@ -78,5 +103,7 @@ pub write-untouched : (a : Apu) (addr v : ℕ) → Untouched a (writeOf a addr v
 unfolding writeOf writtenAt
 write-untouched a addr v =
     both-ways (λ (w : Written). Untouched a (w .apu)) _
-    (both-ways (Untouched a) _ (gated a (addr - 0xFF10) v) (both-ways (Untouched a) _ (powered a v) (both-ways (Untouched a) _ (same a) (stored a (addr - 0xFF10) v))))
+    (both-ways (Untouched a) _ (gated a (addr - 0xFF10) v)
+    (both-ways (Untouched a) _ (powered a v)
+    (both-ways (Untouched a) _ (same a) (stored a (addr - 0xFF10) v))))
     (same a)

@@ -103,7 +103,8 @@ poweredOff a = silenced (zeroed a 22)
 unfoldable pub restarted : Apu → Apu
 restarted a =
     withPower
-    (withPosition (withGroups a (pulse.rewound (a .pulse1)) (pulse.rewound (a .pulse2)) (wave.rewound (a .wave)) (a .noise)) (pick (a .«divider_sequencer_clock_bit») (negsuc 0) (pos 0)))
+    (withPosition (withGroups a (pulse.rewound (a .pulse1)) (pulse.rewound (a .pulse2)) (wave.rewound (a .wave)) (a .noise))
+    (pick (a .«divider_sequencer_clock_bit») (negsuc 0) (pos 0)))
     true
 
 -- "and off DMG the lengths at maximum"

@@ -6,7 +6,9 @@ ghost use Rattle.ground.specs.Pick.{pick};
 ghost use Rattle.apu.specs.Held.{Held, FloatsHeld};
 ghost use Rattle.clocks.specs.Position.{nextEven};
 ghost use Rattle.apu.specs.Answers.{refusalOfRead, returnedOfRead, refusalOfWrite, returnedOfWrite};
-ghost use Rattle.apu.specs.Registers.{statusByte, byteAt, readOf, pcm12Of, pcm34Of, soundWritten, gatedWritten, ramWritten, zeroed, silenced, poweredOff, restarted, refilled, poweredOn, powerWritten, writtenAt, writeOf};
+ghost use Rattle.apu.specs.Registers.{statusByte, byteAt, readOf, pcm12Of, pcm34Of};
+ghost use Rattle.apu.specs.Registers.{soundWritten, gatedWritten, ramWritten, powerWritten, writtenAt, writeOf};
+ghost use Rattle.apu.specs.Registers.{zeroed, silenced, poweredOff, restarted, refilled, poweredOn};
 use crate::Apu;
 use clocks::position::next_position;
 use ground::num::flag;
@@ -89,7 +91,8 @@ impl Apu {
 
     // A read of any address.
     pub fn read_register(self, addr: u16) -> Read
-        ensures { λ r. ⌜ (r ≡ readOf self addr) × (refusalOfRead r ≡ pick (isSound addr) 0 1) × (returnedOfRead r ≡ pick (isSound addr) (byteAt self (addr - 0xFF10)) 0) ⌝ }
+        ensures { λ r. ⌜ (r ≡ readOf self addr) × (refusalOfRead r ≡ pick (isSound addr) 0 1)
+            × (returnedOfRead r ≡ pick (isSound addr) (byteAt self (addr - 0xFF10)) 0) ⌝ }
     {
         if is_sound(addr) {
             Read::Byte(self.byte_at(addr - 0xFF10))

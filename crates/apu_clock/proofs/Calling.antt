@@ -18,27 +18,33 @@ use Rattle.apu_clock.specs.declared.clock.Answer.{Answer}
 use Rattle.apu_clock.specs.declared.clock.Answer.the-variants.{Nothing, Frame, NoRoom}
 
 -- a working clock
-module _ (a : Apu) (half : ℕ) (double : Bool) (divider place : ℕ) (b : Buffers) (t : Ticked) (t-is : t ≡ tickBy (everyAt 44100) (a .«sample_counter»)) where
-  pub frame-way : (f : Framed) (c : Buffers) → t .made ≡ true → roomFor place b ≡ true → f ≡ frameOf a (t .counter) half double divider → c ≡ framed (f .mix) place b
-      → answered Frame (f .apu) c ≡ worked a half double divider place b
-  unfolding pick worked frameDue
-  frame-way f c m r f-is c-is = rw (c-is, ← t-is, m, r, f-is)
+module _
+    (a : Apu) (half : ℕ) (double : Bool) (divider place : ℕ) (b : Buffers)
+    (t : Ticked) (t-is : t ≡ tickBy (everyAt 44100) (a .«sample_counter»))
+  where
+    pub frame-way : (f : Framed) (c : Buffers) → t .made ≡ true → roomFor place b ≡ true
+        → f ≡ frameOf a (t .counter) half double divider → c ≡ framed (f .mix) place b
+        → answered Frame (f .apu) c ≡ worked a half double divider place b
+    unfolding pick worked frameDue
+    frame-way f c m r f-is c-is = rw (c-is, ← t-is, m, r, f-is)
 
-  pub refused-way : t .made ≡ true → roomFor place b ≡ false → answered NoRoom a b ≡ worked a half double divider place b
-  unfolding pick worked frameDue
-  refused-way m r = rw (← t-is, m, r)
+    pub refused-way : t .made ≡ true → roomFor place b ≡ false → answered NoRoom a b ≡ worked a half double divider place b
+    unfolding pick worked frameDue
+    refused-way m r = rw (← t-is, m, r)
 
-  pub plain-way : (n : Apu) → t .made ≡ false → n ≡ passed a (t .counter) half double divider → answered Nothing n b ≡ worked a half double divider place b
-  unfolding pick worked
-  plain-way n m n-is = rw (n-is, ← t-is, m)
+    pub plain-way : (n : Apu) → t .made ≡ false → n ≡ passed a (t .counter) half double divider → answered Nothing n b ≡ worked a half double divider place b
+    unfolding pick worked
+    plain-way n m n-is = rw (n-is, ← t-is, m)
 
 -- the call: below 2 half-clocks it ends, else a working clock follows
 module _ (a : Apu) (double : Bool) (divider place : ℕ) (b : Buffers) (k : ℕ) (k-is : k ≡ halfClocksOf double) where
-  pub short-way : a .«clocks_counter» + k < 2 → answered Nothing (withClocks a (a .«sample_counter») (a .«clocks_counter» + k)) b ≡ clockOf a double divider place b
+  pub short-way : a .«clocks_counter» + k < 2
+      → answered Nothing (withClocks a (a .«sample_counter») (a .«clocks_counter» + k)) b ≡ clockOf a double divider place b
   unfolding pick clockOf
   short-way h = rw (← k-is, lt-ltb (a .«clocks_counter» + k) 2 h)
 
-  pub long-way : (r : After) → 2 ≤ a .«clocks_counter» + k → r ≡ worked a (a .«clocks_counter» + k - 2) double divider place b → r ≡ clockOf a double divider place b
+  pub long-way : (r : After) → 2 ≤ a .«clocks_counter» + k → r ≡ worked a (a .«clocks_counter» + k - 2) double divider place b
+      → r ≡ clockOf a double divider place b
   unfolding pick clockOf
   long-way r h e = rw (← k-is, le-ltb (a .«clocks_counter» + k) 2 h) e
 
@@ -54,7 +60,10 @@ refusal-is a double divider place b =
     (λ short. sym (none (rw short)))
     (λ long.
     pick-holds (Told a double place b) _ _ _
-    (λ m. pick-holds (Told a double place b) _ _ _ (λ r. sym (none (rw (long, m, r)))) (λ r. sym (pick-true {A = ℕ} (noRoom a double place b) 2 0 (rw (long, m, r)))))
+    (λ m.
+    pick-holds (Told a double place b) _ _ _
+    (λ r. sym (none (rw (long, m, r))))
+    (λ r. sym (pick-true {A = ℕ} (noRoom a double place b) 2 0 (rw (long, m, r)))))
     (λ m. sym (none (rw (long, m)))))
 
 pub told : (a : Apu) (double : Bool) (divider place : ℕ) (b : Buffers) (r : After) → r ≡ clockOf a double divider place b → Told a double place b r

@@ -1,4 +1,5 @@
--- Demand 3 over the real unit: every use, seen through the unit's clocks, is one of the four kinds, so the law of the clocks applies to any row of uses. Assumes nothing.
+-- Demand 3 over the real unit: every use, seen through the unit's clocks, is one of the four kinds,
+-- so the law of the clocks applies to any row of uses. Assumes nothing.
 use mathlib.Core.Path.{_≡_, refl, sym, ap, ap₂, _∙_}
 use mathlib.Core.Bool.{Bool, true, false, _&&_}
 use mathlib.Core.List.{List, _∷_}

@@ -17,7 +17,8 @@ bitOf double divider = pick double (eqb (divider / 32 % 2) 1) (eqb (divider / 16
 
 -- "length": every group's
 unfoldable pub lengthsClocked : Apu → Apu
-lengthsClocked a = withGroups a (pulse.lengthClocked (a .pulse1)) (pulse.lengthClocked (a .pulse2)) (wave.lengthClocked (a .wave)) (noise.lengthClocked (a .noise))
+lengthsClocked a =
+    withGroups a (pulse.lengthClocked (a .pulse1)) (pulse.lengthClocked (a .pulse2)) (wave.lengthClocked (a .wave)) (noise.lengthClocked (a .noise))
 
 -- "pulse 1 sweep"
 unfoldable pub sweepClocked : Apu → Apu

@@ -1,4 +1,5 @@
--- Any use of the unit: the calls that there are, what each makes of the unit and its frames, and how its clocks see it. Demand 3 speaks of these. Assumes nothing.
+-- Any use of the unit: the calls that there are, what each makes of the unit and its frames, and how its clocks see it.
+-- Demand 3 speaks of these. Assumes nothing.
 use mathlib.Core.Bool.{Bool}
 use mathlib.Core.List.{List, [], _∷_}
 use Prim.Native.Nat.{ℕ, _+_, _≤_}

@@ -103,7 +103,8 @@ fn work(
     requires { ⌜ Held unit ⌝ }
     requires { ⌜ half ≤ 1 ⌝ }
     ensures { λ r. ⌜ after r (five (now (pulse1 .exit)) (now (pulse2 .exit)) (now (wave .exit)) (now (noise .exit)) (now (all .exit)))
-        ≡ worked unit half double divider place (five (now (pulse1 .entry)) (now (pulse2 .entry)) (now (wave .entry)) (now (noise .entry)) (now (all .entry))) ⌝ }
+        ≡ worked unit half double divider place
+        (five (now (pulse1 .entry)) (now (pulse2 .entry)) (now (wave .entry)) (now (noise .entry)) (now (all .entry))) ⌝ }
 {
     let ticked = tick(unit.sample_counter);
     if ticked.made {

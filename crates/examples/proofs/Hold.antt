@@ -36,7 +36,9 @@ four number n said e rows = given false false and given false true and given tru
     given skip dmg = frames skip dmg n ∙ e
 
 pub marked-hold : AllHold marked
-unfolding pick zeroAsEight fresh skipped readOf byteAt statusByte byteOf pulse.enveloped pulse.sweepWritten pulse.triggered pulse.sweepClocked sweep.triggered sweep.sweepStarted sweep.checked sweep.calculated sweep.targetOf sweep.clocked sweep.expired sweep.reloaded sweep.updated sweep.stored
+unfolding pick zeroAsEight fresh skipped readOf byteAt statusByte byteOf
+    pulse.enveloped pulse.sweepWritten pulse.triggered pulse.sweepClocked
+    sweep.triggered sweep.sweepStarted sweep.checked sweep.calculated sweep.targetOf sweep.clocked sweep.expired sweep.reloaded sweep.updated sweep.stored
     noise.reloadOf noise.divisorOf noise.steppedRegister noise.feedbackOf noise.putBit wave.triggered wave.bufferAtTrigger wave.rewritten wave.fourFrom
     converter.stepped sideOf toBits div sub mul add ofInt ofBits
 marked-hold =

@@ -121,7 +121,9 @@ short-inside : (s : List ℕ) (at : ℕ) → cutAt s at ≡ Short → at ≤ len
 unfolding pick cutAt
 short-inside s at e = go (leb (length s) at) refl e
   where
-    go : (a : Bool) → leb (length s) at ≡ a → pick a End (pick (ltb (length s - at) 2) Short (pick (ltb (length s - at - 2) (word s at)) Short (Body (word s at)))) ≡ Short → at ≤ length s
+    go : (a : Bool) → leb (length s) at ≡ a
+        → pick a End (pick (ltb (length s - at) 2) Short (pick (ltb (length s - at - 2) (word s at)) Short (Body (word s at)))) ≡ Short
+        → at ≤ length s
     go true x h = let f : _≡_ {A = ℕ} 0 1 = cc in omega arith
     go false x h = le-of-lt (leb-false (length s) at x)
 
@@ -141,13 +143,15 @@ mark-inside top place (Clock d v k) h = omega arith
 mark-inside top place Pcm h = omega arith
 mark-inside top place Wrong h = h
 
-first-inside : (s : List ℕ) (at : ℕ) (rest : ℕ → Parsed) (k : Cut) → cutAt s at ≡ k → ((n : ℕ) → Inside (length s) (wrongIn (rest (at + 2 + n)))) → Inside (length s) (wrongIn (grow s at rest k))
+first-inside : (s : List ℕ) (at : ℕ) (rest : ℕ → Parsed) (k : Cut) → cutAt s at ≡ k
+    → ((n : ℕ) → Inside (length s) (wrongIn (rest (at + 2 + n)))) → Inside (length s) (wrongIn (grow s at rest k))
 unfolding wrongIn
 first-inside s at rest End e h = omega arith
 first-inside s at rest Short e h = short-inside s at e
 first-inside s at rest (Body n) e h =
     let b = body-fits s at n e in
-    or-inside (length s) (wrongMark at (judgeOf (bodyAt s at n))) (wrongIn (rest (at + 2 + n))) (mark-inside (length s) at (judgeOf (bodyAt s at n)) (omega arith)) (h n)
+    let r = judgeOf (bodyAt s at n) in
+    or-inside (length s) (wrongMark at r) (wrongIn (rest (at + 2 + n))) (mark-inside (length s) at r (omega arith)) (h n)
 
 parsed-inside : (n : ℕ) (s : List ℕ) (at : ℕ) → Inside (length s) (wrongIn (parse n s at))
 unfolding parse wrongIn

@@ -70,10 +70,18 @@ module _ {s : List ℕ} {at : ℕ} {t : Found} (g : Going s at t) where
   fits-none w h =
       let rest = foundAll (recordsFrom s at) in
       record {
-        records = rw (add-zero (t .sums .records)) (part _ (rest .sums .records) _ _ (ap (λ (x : Found). x .sums .records) (g .state)) (count-low s h) (omega arith));
-        calls = rw (add-zero (t .sums .calls)) (part _ (rest .sums .calls) _ _ (ap (λ (x : Found). x .sums .calls) (g .state)) (calls-low s h) (omega arith));
-        halves = rw (add-zero (t .sums .halves)) (part _ (rest .sums .halves) _ _ (ap (λ (x : Found). x .sums .halves) (g .state)) (halves-low s h) (omega arith));
-        «read_bytes» = rw (add-zero (t .sums .«read_bytes»)) (part _ (rest .sums .«read_bytes») _ _ (ap (λ (x : Found). x .sums .«read_bytes») (g .state)) (read-bytes-low s h) (omega arith));
+        records =
+            rw (add-zero (t .sums .records))
+            (part _ (rest .sums .records) _ _ (ap (λ (x : Found). x .sums .records) (g .state)) (count-low s h) (omega arith));
+        calls =
+            rw (add-zero (t .sums .calls))
+            (part _ (rest .sums .calls) _ _ (ap (λ (x : Found). x .sums .calls) (g .state)) (calls-low s h) (omega arith));
+        halves =
+            rw (add-zero (t .sums .halves))
+            (part _ (rest .sums .halves) _ _ (ap (λ (x : Found). x .sums .halves) (g .state)) (halves-low s h) (omega arith));
+        «read_bytes» =
+            rw (add-zero (t .sums .«read_bytes»))
+            (part _ (rest .sums .«read_bytes») _ _ (ap (λ (x : Found). x .sums .«read_bytes») (g .state)) (read-bytes-low s h) (omega arith));
       }
 
   pub cut-short : cutAt s at ≡ Short → both t (nothing (At at)) ≡ foundAll (recordsFrom s 2)

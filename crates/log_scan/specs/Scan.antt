@@ -1,4 +1,5 @@
--- What the scan, the pass over a log before it is played, finds in some records: the first wrong one, and sums; of two rows, from what each has. Assumes nothing.
+-- What the scan, the pass over a log before it is played, finds in some records: the first wrong one, and sums;
+-- of two rows, from what each has. Assumes nothing.
 use Prim.Native.Nat.{ℕ, _+_, _^_, _<_}
 use mathlib.Core.List.{List}
 use lib.ListN.{length}

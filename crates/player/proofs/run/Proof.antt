@@ -19,10 +19,12 @@ enum-known-answer c =
 
 shared-slice-read-show-log : tie.Need-shared-slice-read-show-log
 shared-slice-read-show-log c =
-    let answer = c .before .before .answer in
-    let scan = c .before .before .before .before .scan in
-    let args = c .before .before .before .before .before .before .args in
-    let d : isDone (scannedOf (now (args .log))) ≡ true = rw (← (scan .ensures .0), answer .given .1) in let l = scanned-long _ _ (now (args .log)) d in omega (arith, l)
+    let done = c .before .before in
+    let scanned = done .before .before in
+    let log = now (scanned .before .before .args .log) in
+    let d : isDone (scannedOf log) ≡ true = rw (← (scanned .scan .ensures .0), done .answer .given .1) in
+    let l = scanned-long _ _ log d in
+    omega (arith, l)
 
 show-log-requires : tie.Need-show-log-requires
 show-log-requires c κs =

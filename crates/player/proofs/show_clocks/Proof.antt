@@ -34,10 +34,13 @@ loop-less c =
 
 loop-again : tie.Need-loop-again Inv-loop μ-loop
 loop-again c =
-    let show-some = c .before .before .before .before .show-some in
-    let next-stop = c .before .before .before .before .before .before .before .next-stop in
-    let loop = c .before .before .before .before .before .before .before .before .before .loop in
-    rw (show-some .ensures) (call-on (loop .inv) (next-stop .result) _ _ (next-stop .ensures .0) (next-stop .ensures .1) (show-some .kept .1 .1 .1 .1 .1 .0) (show-some .kept .1 .1 .1 .1 .1 .1 .0))
+    let shown = c .before .before .before .before in
+    let stopped = shown .before .before .before in
+    let turn = stopped .before .before in
+    let stop = stopped .next-stop in
+    let kept = shown .show-some .kept .1 .1 .1 .1 .1 in
+    rw (shown .show-some .ensures)
+    (call-on (turn .loop .inv) (stop .result) _ _ (stop .ensures .0) (stop .ensures .1) (kept .0) (kept .1 .0))
 
 same-length : tie.Need-same-length Inv-loop μ-loop
 same-length c =

@@ -20,15 +20,21 @@ play-record-requires c κs =
 
 slice-reshare-prefix-put-items : tie.Need-slice-reshare-prefix-put-items
 slice-reshare-prefix-put-items c =
-    let play-record = c .before .before .before .play-record in
-    let pre = c .before .before .before .before .before .before .before .before .before .pre in
-    let e = ap (λ (x : Play). x .at) (play-record .ensures .0) in let r = pre .1 in let k = play-record .kept .1 .1 .0 in omega (arith, e, r, k)
+    let played = c .before .before .before in
+    let start = played .before .before .before .before .before .before in
+    let e = ap (λ (x : Play). x .at) (played .play-record .ensures .0) in
+    let r = start .pre .1 in
+    let k = played .play-record .kept .1 .1 .0 in
+    omega (arith, e, r, k)
 
 slice-aggregate-put-items : tie.Need-slice-aggregate-put-items
 slice-aggregate-put-items c =
-    let play-record = c .before .before .before .before .play-record in
-    let pre = c .before .before .before .before .before .before .before .before .before .before .pre in
-    let e = ap (λ (x : Play). x .at) (play-record .ensures .0) in let r = pre .1 in let k = play-record .kept .1 .1 .0 in prefix-counts _ _ (omega (arith, e, r, k))
+    let played = c .before .before .before .before in
+    let start = played .before .before .before .before .before .before in
+    let e = ap (λ (x : Play). x .at) (played .play-record .ensures .0) in
+    let r = start .pre .1 in
+    let k = played .play-record .kept .1 .1 .0 in
+    prefix-counts _ _ (omega (arith, e, r, k))
 
 put-items-requires : tie.Need-put-items-requires
 put-items-requires c κs =

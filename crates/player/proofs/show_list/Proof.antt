@@ -19,7 +19,8 @@ abbrev μ-loop : tie.MeasureT-loop
 
 loop-holds : tie.Need-loop-holds Inv-loop μ-loop
 loop-holds c =
-    showing (c .before .before .before .pre .0) (c .before .before .before .pre .1)
+    let pre = c .before .before .before .pre in
+    showing (pre .0) (pre .1)
 
 cut-at-requires : tie.Need-cut-at-requires Inv-loop μ-loop
 cut-at-requires c κs =
@@ -39,7 +40,9 @@ same-length-2 c =
 
 returns : tie.Need-returns Inv-loop μ-loop
 returns c =
-    shown-all (c .before .before .before .loop .inv) (list-end _ _ (sym (c .before .before .cut-at .ensures) ∙ c .enum-told .given .1))
+    let cut = c .before .before in
+    let turn = cut .before in
+    shown-all (turn .loop .inv) (list-end _ _ (sym (cut .cut-at .ensures) ∙ c .enum-told .given .1))
 
 enum-told-2 : tie.Need-enum-told-2 Inv-loop μ-loop
 enum-told-2 c =
@@ -55,7 +58,9 @@ same-length-4 c =
 
 returns-2 : tie.Need-returns-2 Inv-loop μ-loop
 returns-2 c =
-    shown-all (c .before .before .before .loop .inv) (list-short _ _ (sym (c .before .before .cut-at .ensures) ∙ c .enum-told2 .given .1))
+    let cut = c .before .before in
+    let turn = cut .before in
+    shown-all (turn .loop .inv) (list-short _ _ (sym (cut .cut-at .ensures) ∙ c .enum-told2 .given .1))
 
 enum-known-len : tie.Need-enum-known-len Inv-loop μ-loop
 enum-known-len c =
@@ -63,11 +68,15 @@ enum-known-len c =
 
 add-from : tie.Need-add-from Inv-loop μ-loop
 add-from c =
-    let h = body-fits _ (c .before .before .before .before .loop .at) _ (sym (c .before .before .before .cut-at .ensures) ∙ c .before .len .given .1) in omega arith
+    let cut = sym (c .before .before .before .cut-at .ensures) ∙ c .before .len .given .1 in
+    let h = body-fits _ (c .before .before .before .before .loop .at) _ cut in
+    omega arith
 
 add-to : tie.Need-add-to Inv-loop μ-loop
 add-to c =
-    let h = body-fits _ (c .before .before .before .before .loop .at) _ (sym (c .before .before .before .cut-at .ensures) ∙ c .before .len .given .1) in omega arith
+    let cut = sym (c .before .before .before .cut-at .ensures) ∙ c .before .len .given .1 in
+    let h = body-fits _ (c .before .before .before .before .loop .at) _ cut in
+    omega arith
 
 sub-show-record : tie.Need-sub-show-record Inv-loop μ-loop
 sub-show-record c =
@@ -79,19 +88,35 @@ part-show-record-start c =
 
 part-show-record-end : tie.Need-part-show-record-end Inv-loop μ-loop
 part-show-record-end c =
-    let h = body-fits _ (c .before .before .before .before .loop .at) _ (sym (c .before .before .before .cut-at .ensures) ∙ c .before .len .given .1) in omega arith
+    let cut = sym (c .before .before .before .cut-at .ensures) ∙ c .before .len .given .1 in
+    let h = body-fits _ (c .before .before .before .before .loop .at) _ cut in
+    omega arith
 
 show-record-requires : tie.Need-show-record-requires Inv-loop μ-loop
 show-record-requires c κs =
-    (c .before .before .before .before .before .before .before .loop .inv .held, c .before .before .before .before .before .before .before .loop .inv .room)
+    let turn = c .before .before .before .before .before .before .before in
+    (turn .loop .inv .held, turn .loop .inv .room)
 
 loop-less : tie.Need-loop-less Inv-loop μ-loop
 loop-less c =
-    let h = body-fits _ (c .before .before .before .before .before .before .before .before .before .before .before .before .loop .at) _ (sym (c .before .before .before .before .before .before .before .before .before .before .before .cut-at .ensures) ∙ c .before .before .before .before .before .before .before .before .before .len .given .1) in omega arith
+    let body = c .before .before .before .before .before .before .before .before .before in
+    let cut = body .before .before in
+    let turn = cut .before in
+    let h = body-fits _ (turn .loop .at) _ (sym (cut .cut-at .ensures) ∙ body .len .given .1) in
+    omega arith
 
 loop-again : tie.Need-loop-again Inv-loop μ-loop
 loop-again c =
-    let n = c .before .before .before .before .before .before .before .before .before .len .given in let k = add-sub-cancel-left (c .before .before .before .before .before .before .before .before .before .before .before .before .loop .at + 2) (n .0 .0) in let b = list-body _ (c .before .before .before .before .before .before .before .before .before .before .before .before .loop .at) (n .0 .0) (sym (c .before .before .before .before .before .before .before .before .before .before .before .cut-at .ensures) ∙ c .before .before .before .before .before .before .before .before .before .len .given .1) in let e = rw k at (c .before .before .before .before .show-record .ensures) in show-on (c .before .before .before .before .before .before .before .before .before .before .before .before .loop .inv) _ _ _ _ _ b (e .0) (e .1) (c .before .before .before .before .show-record .kept .1 .1 .0) (c .before .before .before .before .show-record .kept .1 .1 .1 .0)
+    let shown = c .before .before .before .before in
+    let body = shown .before .before .before .before .before in
+    let cut = body .before .before in
+    let turn = cut .before in
+    let n = body .len .given in
+    let k = add-sub-cancel-left (turn .loop .at + 2) (n .0 .0) in
+    let b = list-body _ (turn .loop .at) (n .0 .0) (sym (cut .cut-at .ensures) ∙ n .1) in
+    let e = rw k at (shown .show-record .ensures) in
+    let kept = shown .show-record .kept .1 .1 in
+    show-on (turn .loop .inv) _ _ _ _ _ b (e .0) (e .1) (kept .0) (kept .1 .0)
 
 pub show-list-spec : {M : Type 1} → statement M
 show-list-spec =

@@ -18,11 +18,12 @@ enum-known-addr c =
 
 show-item-requires : tie.Need-show-item-requires
 show-item-requires c κs =
-    let addr = c .before .before .before .addr in
-    let judge = c .before .before .before .before .before .judge in
-    let args = c .before .before .before .before .before .before .before .before .before .args in
-    let pre = c .before .before .before .before .before .before .before .before .before .pre in
-    let e = (sym (judge .ensures) ∙ addr .given .1) in (pre .0, few (judgeOf (now (args .body))) (args .s .apu) (now (args .bytes)) (pre .1) (rw e (omega arith)))
+    let write = c .before .before .before in
+    let judged = write .before .before in
+    let start = judged .before .before .before .before in
+    let e = sym (judged .judge .ensures) ∙ write .addr .given .1 in
+    let a = start .args in
+    (start .pre .0, few (judgeOf (now (a .body))) (a .s .apu) (now (a .bytes)) (start .pre .1) (rw e (omega arith)))
 
 enum-known-addr-2 : tie.Need-enum-known-addr-2
 enum-known-addr-2 c =
@@ -30,11 +31,12 @@ enum-known-addr-2 c =
 
 show-item-requires-2 : tie.Need-show-item-requires-2
 show-item-requires-2 c κs =
-    let addr2 = c .before .before .before .addr2 in
-    let judge = c .before .before .before .before .before .judge in
-    let args = c .before .before .before .before .before .before .before .before .before .args in
-    let pre = c .before .before .before .before .before .before .before .before .before .pre in
-    let e = (sym (judge .ensures) ∙ addr2 .given .1) in (pre .0, few (judgeOf (now (args .body))) (args .s .apu) (now (args .bytes)) (pre .1) (rw e (omega arith)))
+    let read = c .before .before .before in
+    let judged = read .before .before in
+    let start = judged .before .before .before .before in
+    let e = sym (judged .judge .ensures) ∙ read .addr2 .given .1 in
+    let a = start .args in
+    (start .pre .0, few (judgeOf (now (a .body))) (a .s .apu) (now (a .bytes)) (start .pre .1) (rw e (omega arith)))
 
 enum-known-double : tie.Need-enum-known-double
 enum-known-double c =
@@ -51,11 +53,12 @@ enum-told c =
 
 show-item-requires-3 : tie.Need-show-item-requires-3
 show-item-requires-3 c κs =
-    let at-enum-told = c .before .before .enum-told in
-    let judge = c .before .before .before .before .judge in
-    let args = c .before .before .before .before .before .before .before .before .args in
-    let pre = c .before .before .before .before .before .before .before .before .pre in
-    let e = (sym (judge .ensures) ∙ at-enum-told .given .1) in (pre .0, few (judgeOf (now (args .body))) (args .s .apu) (now (args .bytes)) (pre .1) (rw e (omega arith)))
+    let pcm = c .before .before in
+    let judged = pcm .before .before in
+    let start = judged .before .before .before .before in
+    let e = sym (judged .judge .ensures) ∙ pcm .enum-told .given .1 in
+    let a = start .args in
+    (start .pre .0, few (judgeOf (now (a .body))) (a .s .apu) (now (a .bytes)) (start .pre .1) (rw e (omega arith)))
 
 enum-told-2 : tie.Need-enum-told-2
 enum-told-2 c =
@@ -63,11 +66,12 @@ enum-told-2 c =
 
 show-item-requires-4 : tie.Need-show-item-requires-4
 show-item-requires-4 c κs =
-    let enum-told2 = c .before .before .enum-told2 in
-    let judge = c .before .before .before .before .judge in
-    let args = c .before .before .before .before .before .before .before .before .args in
-    let pre = c .before .before .before .before .before .before .before .before .pre in
-    let e = (sym (judge .ensures) ∙ enum-told2 .given .1) in (pre .0, few (judgeOf (now (args .body))) (args .s .apu) (now (args .bytes)) (pre .1) (rw e (omega arith)))
+    let wrong = c .before .before in
+    let judged = wrong .before .before in
+    let start = judged .before .before .before .before in
+    let e = sym (judged .judge .ensures) ∙ wrong .enum-told2 .given .1 in
+    let a = start .args in
+    (start .pre .0, few (judgeOf (now (a .body))) (a .s .apu) (now (a .bytes)) (start .pre .1) (rw e (omega arith)))
 
 same-length : tie.Need-same-length
 same-length c =
@@ -111,12 +115,13 @@ same-length-6 c =
 
 returns-3 : tie.Need-returns-3
 returns-3 c =
-    let show-clocks = c .before .before .before .before .show-clocks in
-    let double = c .before .before .before .before .before .before .before .before .double in
-    let judge = c .before .before .before .before .before .before .before .before .before .before .judge in
-    let args = c .before .before .before .before .before .before .before .before .before .before .before .before .before .before .args in
-    let pre = c .before .before .before .before .before .before .before .before .before .before .before .before .before .before .pre in
-    clocked-shown (judgeOf (now (args .body))) _ _ _ (args .s .apu) _ (sym (judge .ensures) ∙ double .given .1) (show-clocks .ensures) (pre .0)
+    let shown = c .before .before .before .before in
+    let clock = shown .before .before .before .before in
+    let judged = clock .before .before in
+    let start = judged .before .before .before .before in
+    let a = start .args in
+    let e = sym (judged .judge .ensures) ∙ clock .double .given .1 in
+    clocked-shown (judgeOf (now (a .body))) _ _ _ (a .s .apu) _ e (shown .show-clocks .ensures) (start .pre .0)
 
 same-length-7 : tie.Need-same-length-7
 same-length-7 c =

@@ -11,23 +11,30 @@ use Rattle.player.proofs.show_some.Tie as tie
 
 play-clocks-requires : tie.Need-play-clocks-requires
 play-clocks-requires c κs =
-    let args = c .before .before .before .before .args in
-    let pre = c .before .before .before .before .pre in
-    (pre .0 .0, (pre .0 .1, (omega (arith, pre .1 .0), some-room (args .double) (args .divider) (args .from) (args .to) (args .s .apu) (now (args .bytes)) (pre .1 .0) (pre .1 .1))))
+    let start = c .before .before .before .before in
+    let a = start .args in
+    let room = some-room (a .double) (a .divider) (a .from) (a .to) (a .s .apu) (now (a .bytes)) (start .pre .1 .0) (start .pre .1 .1) in
+    (start .pre .0 .0, (start .pre .0 .1, (omega (arith, start .pre .1 .0), room)))
 
 slice-reshare-prefix-put-items : tie.Need-slice-reshare-prefix-put-items
 slice-reshare-prefix-put-items c =
-    let play-clocks = c .before .before .before .play-clocks in
-    let args = c .before .before .before .before .before .before .before .before .args in
-    let pre = c .before .before .before .before .before .before .before .before .pre in
-    let e = ap (λ (x : Play). x .at) (play-clocks .ensures .0) in let r = some-room (args .double) (args .divider) (args .from) (args .to) (args .s .apu) (now (args .bytes)) (pre .1 .0) (pre .1 .1) in let k = play-clocks .kept .1 .1 .1 .1 .1 .0 in omega (arith, e, r, k)
+    let played = c .before .before .before in
+    let start = played .before .before .before .before .before in
+    let a = start .args in
+    let e = ap (λ (x : Play). x .at) (played .play-clocks .ensures .0) in
+    let r = some-room (a .double) (a .divider) (a .from) (a .to) (a .s .apu) (now (a .bytes)) (start .pre .1 .0) (start .pre .1 .1) in
+    let k = played .play-clocks .kept .1 .1 .1 .1 .1 .0 in
+    omega (arith, e, r, k)
 
 slice-aggregate-put-items : tie.Need-slice-aggregate-put-items
 slice-aggregate-put-items c =
-    let play-clocks = c .before .before .before .before .play-clocks in
-    let args = c .before .before .before .before .before .before .before .before .before .args in
-    let pre = c .before .before .before .before .before .before .before .before .before .pre in
-    let e = ap (λ (x : Play). x .at) (play-clocks .ensures .0) in let r = some-room (args .double) (args .divider) (args .from) (args .to) (args .s .apu) (now (args .bytes)) (pre .1 .0) (pre .1 .1) in let k = play-clocks .kept .1 .1 .1 .1 .1 .0 in prefix-counts _ _ (omega (arith, e, r, k))
+    let played = c .before .before .before .before in
+    let start = played .before .before .before .before .before in
+    let a = start .args in
+    let e = ap (λ (x : Play). x .at) (played .play-clocks .ensures .0) in
+    let r = some-room (a .double) (a .divider) (a .from) (a .to) (a .s .apu) (now (a .bytes)) (start .pre .1 .0) (start .pre .1 .1) in
+    let k = played .play-clocks .kept .1 .1 .1 .1 .1 .0 in
+    prefix-counts _ _ (omega (arith, e, r, k))
 
 put-items-requires : tie.Need-put-items-requires
 put-items-requires c κs =

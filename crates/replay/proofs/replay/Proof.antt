@@ -62,9 +62,11 @@ loop-less c =
 
 loop-again : tie.Need-loop-again Inv-loop μ-loop
 loop-again c =
-    let step = c .before .before .before .before .before .before .before .before .step in
-    let loop = c .before .before .before .before .before .before .before .before .before .before .before .before .before .before .before .before .loop in
-    let k = step .kept .1 in let g = loop .inv in record { heads = k .0 ∙ g .heads; logs = k .1 .0 ∙ g .logs; wants = k .1 .1 .0 ∙ g .wants; outs = k .1 .1 .1 .0 ∙ g .outs }
+    let stepped = c .before .before .before .before .before .before .before .before in
+    let turn = stepped .before .before .before .before .before .before .before .before in
+    let k = stepped .step .kept .1 in
+    let g = turn .loop .inv in
+    record { heads = k .0 ∙ g .heads; logs = k .1 .0 ∙ g .logs; wants = k .1 .1 .0 ∙ g .wants; outs = k .1 .1 .1 .0 ∙ g .outs }
 
 same-length-5 : tie.Need-same-length-5 Inv-loop μ-loop
 same-length-5 c =

@@ -8,27 +8,196 @@ use Rattle.channel_pulse.proofs.Ranges.{sweep-byte-le}
 use Rattle.apu.proofs.Apu.byte_at.Statement.{statement}
 use Rattle.apu.proofs.Apu.byte_at.Tie as tie
 
-pub byte-at-spec : {M : Type 1} → statement M
+byte-fits : tie.Need-add-result
+byte-fits c =
+    let start = c .before .before .before .before .before .before .before in
+    omega (arith, sweep-byte-le (start .args .self .pulse1 .channel .sweep), c .read-sweep-register .ensures)
+
+sweep-register : tie.Need-returns
 unfolding pick byteAt
+sweep-register c =
+    let sweep = c .before .before in
+    rw (c .read-sweep-register .ensures, eq-eqb _ _ (sweep .if1 .taken))
+
+of-pulse1 : tie.Need-returns-2
+unfolding pick byteAt
+of-pulse1 c =
+    let pulse1 = c .before in
+    let sweep = pulse1 .before in
+    rw (c .read .ensures, ne-eqb _ _ (sweep .if1 .left), lt-ltb _ _ (pulse1 .if2 .taken))
+
+of-pulse2 : tie.Need-returns-3
+unfolding pick byteAt
+of-pulse2 c =
+    let pulse2 = c .before in
+    let pulse1 = pulse2 .before in
+    let sweep = pulse1 .before in
+    rw (
+      c .read2 .ensures,
+      ne-eqb _ _ (sweep .if1 .left),
+      le-ltb _ _ (pulse1 .if2 .left),
+      lt-ltb _ _ (pulse2 .if3 .taken),
+    )
+
+of-wave : tie.Need-returns-4
+unfolding pick byteAt
+of-wave c =
+    let wave = c .before in
+    let pulse2 = wave .before in
+    let pulse1 = pulse2 .before in
+    let sweep = pulse1 .before in
+    rw (
+      c .read3 .ensures,
+      ne-eqb _ _ (sweep .if1 .left),
+      le-ltb _ _ (pulse1 .if2 .left),
+      le-ltb _ _ (pulse2 .if3 .left),
+      lt-ltb _ _ (wave .if4 .taken),
+    )
+
+of-noise : tie.Need-returns-5
+unfolding pick byteAt
+of-noise c =
+    let noise = c .before in
+    let wave = noise .before in
+    let pulse2 = wave .before in
+    let pulse1 = pulse2 .before in
+    let sweep = pulse1 .before in
+    rw (
+      c .read4 .ensures,
+      ne-eqb _ _ (sweep .if1 .left),
+      le-ltb _ _ (pulse1 .if2 .left),
+      le-ltb _ _ (pulse2 .if3 .left),
+      le-ltb _ _ (wave .if4 .left),
+      lt-ltb _ _ (noise .if5 .taken),
+    )
+
+control-register : tie.Need-returns-6
+unfolding pick byteAt
+control-register c =
+    let noise = c .before in
+    let wave = noise .before in
+    let pulse2 = wave .before in
+    let pulse1 = pulse2 .before in
+    let sweep = pulse1 .before in
+    rw (
+      ne-eqb _ _ (sweep .if1 .left),
+      le-ltb _ _ (pulse1 .if2 .left),
+      le-ltb _ _ (pulse2 .if3 .left),
+      le-ltb _ _ (wave .if4 .left),
+      le-ltb _ _ (noise .if5 .left),
+      eq-eqb _ _ (c .if6 .taken),
+    )
+
+selection-register : tie.Need-returns-7
+unfolding pick byteAt
+selection-register c =
+    let control = c .before in
+    let noise = control .before in
+    let wave = noise .before in
+    let pulse2 = wave .before in
+    let pulse1 = pulse2 .before in
+    let sweep = pulse1 .before in
+    rw (
+      ne-eqb _ _ (sweep .if1 .left),
+      le-ltb _ _ (pulse1 .if2 .left),
+      le-ltb _ _ (pulse2 .if3 .left),
+      le-ltb _ _ (wave .if4 .left),
+      le-ltb _ _ (noise .if5 .left),
+      ne-eqb _ _ (control .if6 .left),
+      eq-eqb _ _ (c .if7 .taken),
+    )
+
+power-register : tie.Need-returns-8
+unfolding pick byteAt
+power-register c =
+    let power = c .before in
+    let selection = power .before in
+    let control = selection .before in
+    let noise = control .before in
+    let wave = noise .before in
+    let pulse2 = wave .before in
+    let pulse1 = pulse2 .before in
+    let sweep = pulse1 .before in
+    rw (
+      c .status .ensures,
+      ne-eqb _ _ (sweep .if1 .left),
+      le-ltb _ _ (pulse1 .if2 .left),
+      le-ltb _ _ (pulse2 .if3 .left),
+      le-ltb _ _ (wave .if4 .left),
+      le-ltb _ _ (noise .if5 .left),
+      ne-eqb _ _ (control .if6 .left),
+      ne-eqb _ _ (selection .if7 .left),
+      eq-eqb _ _ (power .if8 .taken),
+    )
+
+unused-register : tie.Need-returns-9
+unfolding pick byteAt
+unused-register c =
+    let power = c .before in
+    let selection = power .before in
+    let control = selection .before in
+    let noise = control .before in
+    let wave = noise .before in
+    let pulse2 = wave .before in
+    let pulse1 = pulse2 .before in
+    let sweep = pulse1 .before in
+    rw (
+      ne-eqb _ _ (sweep .if1 .left),
+      le-ltb _ _ (pulse1 .if2 .left),
+      le-ltb _ _ (pulse2 .if3 .left),
+      le-ltb _ _ (wave .if4 .left),
+      le-ltb _ _ (noise .if5 .left),
+      ne-eqb _ _ (control .if6 .left),
+      ne-eqb _ _ (selection .if7 .left),
+      ne-eqb _ _ (power .if8 .left),
+      lt-ltb _ _ (c .if9 .taken),
+    )
+
+wave-ram : tie.Need-returns-10
+unfolding pick byteAt
+wave-ram c =
+    let unused = c .before .before in
+    let power = unused .before in
+    let selection = power .before in
+    let control = selection .before in
+    let noise = control .before in
+    let wave = noise .before in
+    let pulse2 = wave .before in
+    let pulse1 = pulse2 .before in
+    let sweep = pulse1 .before in
+    rw (
+      c .read-buffer .ensures,
+      ne-eqb _ _ (sweep .if1 .left),
+      le-ltb _ _ (pulse1 .if2 .left),
+      le-ltb _ _ (pulse2 .if3 .left),
+      le-ltb _ _ (wave .if4 .left),
+      le-ltb _ _ (noise .if5 .left),
+      ne-eqb _ _ (control .if6 .left),
+      ne-eqb _ _ (selection .if7 .left),
+      ne-eqb _ _ (power .if8 .left),
+      le-ltb _ _ (unused .if9 .left),
+    )
+
+pub byte-at-spec : {M : Type 1} → statement M
 byte-at-spec =
     tie.close
     (tie.spec
     (λ c κs. search needs)
-    (λ c. omega (arith, sweep-byte-le (c .before .before .before .before .before .before .before .args .self .pulse1 .channel .sweep), c .read-sweep-register .ensures))
-    (λ c. rw (c .read-sweep-register .ensures, eq-eqb _ _ (c .before .before .if1 .taken)))
+    byte-fits
+    sweep-register
     (λ c κs. search needs)
-    (λ c. rw (c .read .ensures, ne-eqb _ _ (c .before .before .if1 .left), lt-ltb _ _ (c .before .if2 .taken)))
+    of-pulse1
     (λ c κs. search needs)
-    (λ c. rw (c .read2 .ensures, ne-eqb _ _ (c .before .before .before .if1 .left), le-ltb _ _ (c .before .before .if2 .left), lt-ltb _ _ (c .before .if3 .taken)))
+    of-pulse2
     (λ c κs. search needs)
-    (λ c. rw (c .read3 .ensures, ne-eqb _ _ (c .before .before .before .before .if1 .left), le-ltb _ _ (c .before .before .before .if2 .left), le-ltb _ _ (c .before .before .if3 .left), lt-ltb _ _ (c .before .if4 .taken)))
+    of-wave
     (λ c κs. search needs)
-    (λ c. rw (c .read4 .ensures, ne-eqb _ _ (c .before .before .before .before .before .if1 .left), le-ltb _ _ (c .before .before .before .before .if2 .left), le-ltb _ _ (c .before .before .before .if3 .left), le-ltb _ _ (c .before .before .if4 .left), lt-ltb _ _ (c .before .if5 .taken)))
-    (λ c. rw (ne-eqb _ _ (c .before .before .before .before .before .if1 .left), le-ltb _ _ (c .before .before .before .before .if2 .left), le-ltb _ _ (c .before .before .before .if3 .left), le-ltb _ _ (c .before .before .if4 .left), le-ltb _ _ (c .before .if5 .left), eq-eqb _ _ (c .if6 .taken)))
-    (λ c. rw (ne-eqb _ _ (c .before .before .before .before .before .before .if1 .left), le-ltb _ _ (c .before .before .before .before .before .if2 .left), le-ltb _ _ (c .before .before .before .before .if3 .left), le-ltb _ _ (c .before .before .before .if4 .left), le-ltb _ _ (c .before .before .if5 .left), ne-eqb _ _ (c .before .if6 .left), eq-eqb _ _ (c .if7 .taken)))
+    of-noise
+    control-register
+    selection-register
     (λ c κs. search needs)
-    (λ c. rw (c .status .ensures, ne-eqb _ _ (c .before .before .before .before .before .before .before .before .if1 .left), le-ltb _ _ (c .before .before .before .before .before .before .before .if2 .left), le-ltb _ _ (c .before .before .before .before .before .before .if3 .left), le-ltb _ _ (c .before .before .before .before .before .if4 .left), le-ltb _ _ (c .before .before .before .before .if5 .left), ne-eqb _ _ (c .before .before .before .if6 .left), ne-eqb _ _ (c .before .before .if7 .left), eq-eqb _ _ (c .before .if8 .taken)))
-    (λ c. rw (ne-eqb _ _ (c .before .before .before .before .before .before .before .before .if1 .left), le-ltb _ _ (c .before .before .before .before .before .before .before .if2 .left), le-ltb _ _ (c .before .before .before .before .before .before .if3 .left), le-ltb _ _ (c .before .before .before .before .before .if4 .left), le-ltb _ _ (c .before .before .before .before .if5 .left), ne-eqb _ _ (c .before .before .before .if6 .left), ne-eqb _ _ (c .before .before .if7 .left), ne-eqb _ _ (c .before .if8 .left), lt-ltb _ _ (c .if9 .taken)))
+    power-register
+    unused-register
     (λ c. search needs)
     (λ c κs. search needs)
-    (λ c. rw (c .read-buffer .ensures, ne-eqb _ _ (c .before .before .before .before .before .before .before .before .before .before .if1 .left), le-ltb _ _ (c .before .before .before .before .before .before .before .before .before .if2 .left), le-ltb _ _ (c .before .before .before .before .before .before .before .before .if3 .left), le-ltb _ _ (c .before .before .before .before .before .before .before .if4 .left), le-ltb _ _ (c .before .before .before .before .before .before .if5 .left), ne-eqb _ _ (c .before .before .before .before .before .if6 .left), ne-eqb _ _ (c .before .before .before .before .if7 .left), ne-eqb _ _ (c .before .before .before .if8 .left), le-ltb _ _ (c .before .before .if9 .left))))
+    wave-ram)

@@ -5,13 +5,28 @@ use Rattle.apu.specs.Registers.{restarted}
 use Rattle.apu.proofs.Apu.restart.Statement.{statement}
 use Rattle.apu.proofs.Apu.restart.Tie as tie
 
-pub restart-spec : {M : Type 1} → statement M
+bit-set : tie.Need-returns
 unfolding pick restarted
+bit-set c =
+    let wave = c .before in
+    let pulse2 = wave .before in
+    let pulse1 = pulse2 .before in
+    rw (wave .rewind3 .ensures, pulse2 .rewind2 .ensures, pulse1 .rewind .ensures, c .if1 .taken)
+
+bit-clear : tie.Need-returns-2
+unfolding pick restarted
+bit-clear c =
+    let wave = c .before in
+    let pulse2 = wave .before in
+    let pulse1 = pulse2 .before in
+    rw (wave .rewind3 .ensures, pulse2 .rewind2 .ensures, pulse1 .rewind .ensures, c .if1 .left)
+
+pub restart-spec : {M : Type 1} → statement M
 restart-spec =
     tie.close
     (tie.spec
     (λ c κs. search needs)
     (λ c κs. search needs)
     (λ c κs. search needs)
-    (λ c. rw (c .before .rewind3 .ensures, c .before .before .rewind2 .ensures, c .before .before .before .rewind .ensures, c .if1 .taken))
-    (λ c. rw (c .before .rewind3 .ensures, c .before .before .rewind2 .ensures, c .before .before .before .rewind .ensures, c .if1 .left)))
+    bit-set
+    bit-clear)

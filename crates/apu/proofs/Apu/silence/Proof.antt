@@ -4,8 +4,15 @@ use Rattle.apu.specs.Registers.{silenced}
 use Rattle.apu.proofs.Apu.silence.Statement.{statement}
 use Rattle.apu.proofs.Apu.silence.Tie as tie
 
-pub silence-spec : {M : Type 1} → statement M
+returns : tie.Need-returns
 unfolding silenced
+returns c =
+    let wave = c .before in
+    let pulse2 = wave .before in
+    let pulse1 = pulse2 .before in
+    rw (c .silence4 .ensures, wave .silence3 .ensures, pulse2 .silence2 .ensures, pulse1 .silence .ensures)
+
+pub silence-spec : {M : Type 1} → statement M
 silence-spec =
     tie.close
     (tie.spec
@@ -13,4 +20,4 @@ silence-spec =
     (λ c κs. search needs)
     (λ c κs. search needs)
     (λ c κs. search needs)
-    (λ c. rw (c .silence4 .ensures, c .before .silence3 .ensures, c .before .before .silence2 .ensures, c .before .before .before .silence .ensures)))
+    returns)

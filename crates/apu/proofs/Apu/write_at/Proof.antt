@@ -6,15 +6,40 @@ use Rattle.apu.specs.Registers.{writtenAt}
 use Rattle.apu.proofs.Apu.write_at.Statement.{statement}
 use Rattle.apu.proofs.Apu.write_at.Tie as tie
 
-pub write-at-spec : {M : Type 1} → statement M
+sound-register : tie.Need-returns
 unfolding pick writtenAt
+sound-register c = rw (c .write-gated .ensures, lt-ltb _ _ (c .before .if1 .taken))
+
+power-register : tie.Need-returns-2
+unfolding pick writtenAt
+power-register c =
+    let power = c .before in
+    let sound = power .before in
+    rw (c .write-power .ensures, le-ltb _ _ (sound .if1 .left), eq-eqb _ _ (power .if2 .taken))
+
+unused-register : tie.Need-returns-3
+unfolding pick writtenAt
+unused-register c =
+    let power = c .before in
+    let sound = power .before in
+    rw (le-ltb _ _ (sound .if1 .left), ne-eqb _ _ (power .if2 .left), lt-ltb _ _ (c .if3 .taken))
+
+wave-ram : tie.Need-returns-4
+unfolding pick writtenAt
+wave-ram c =
+    let unused = c .before in
+    let power = unused .before in
+    let sound = power .before in
+    rw (c .write-ram .ensures, le-ltb _ _ (sound .if1 .left), ne-eqb _ _ (power .if2 .left), le-ltb _ _ (unused .if3 .left))
+
+pub write-at-spec : {M : Type 1} → statement M
 write-at-spec =
     tie.close
     (tie.spec
     (λ c κs. search needs)
-    (λ c. rw (c .write-gated .ensures, lt-ltb _ _ (c .before .if1 .taken)))
+    sound-register
     (λ c κs. search needs)
-    (λ c. rw (c .write-power .ensures, le-ltb _ _ (c .before .before .if1 .left), eq-eqb _ _ (c .before .if2 .taken)))
-    (λ c. rw (le-ltb _ _ (c .before .before .if1 .left), ne-eqb _ _ (c .before .if2 .left), lt-ltb _ _ (c .if3 .taken)))
+    power-register
+    unused-register
     (λ c κs. search needs)
-    (λ c. rw (c .write-ram .ensures, le-ltb _ _ (c .before .before .before .if1 .left), ne-eqb _ _ (c .before .before .if2 .left), le-ltb _ _ (c .before .if3 .left))))
+    wave-ram)

@@ -5,11 +5,17 @@ use Rattle.apu_clock.proofs.Ranges.{pushed-held}
 use Rattle.apu_clock.proofs.clock.frame.Statement.{statement}
 use Rattle.apu_clock.proofs.clock.frame.Tie as tie
 
+sounded-held : tie.Need-pass-requires
+sounded-held c κs =
+    let sounded = c .before .before in
+    let start = sounded .before in
+    (rw (sounded .push-output .ensures) (pushed-held _ (start .pre .0)), start .pre .1)
+
 pub frame-spec : {M : Type 1} → statement M
 unfolding frameOf
 frame-spec =
     tie.close
     (tie.spec
     (λ c κs. search needs)
-    (λ c κs. (rw (c .before .before .push-output .ensures) (pushed-held _ (c .before .before .before .pre .0)), c .before .before .before .pre .1))
+    sounded-held
     (λ c. rw (c .pass .ensures, c .before .before .before .push-output .ensures)))

@@ -4,8 +4,17 @@ use Rattle.apu_clock.specs.Clocking.{pushed}
 use Rattle.apu_clock.proofs.clock.push_output.Statement.{statement}
 use Rattle.apu_clock.proofs.clock.push_output.Tie as tie
 
-pub push-output-spec : {M : Type 1} → statement M
+returns : tie.Need-returns
 unfolding pushed
+returns c =
+    let mixed = c .before .before .before .before in
+    let noise = mixed .before in
+    let wave = noise .before in
+    let pulse2 = wave .before in
+    let pulse1 = pulse2 .before in
+    rw (mixed .mix-of .ensures, noise .sound4 .ensures, wave .sound3 .ensures, pulse2 .sound2 .ensures, pulse1 .sound .ensures)
+
+pub push-output-spec : {M : Type 1} → statement M
 push-output-spec =
     tie.close
     (tie.spec
@@ -14,4 +23,4 @@ push-output-spec =
     (λ c κs. search needs)
     (λ c κs. search needs)
     (λ c κs. search needs)
-    (λ c. rw (c .before .before .before .before .mix-of .ensures, c .before .before .before .before .before .sound4 .ensures, c .before .before .before .before .before .before .sound3 .ensures, c .before .before .before .before .before .before .before .sound2 .ensures, c .before .before .before .before .before .before .before .before .sound .ensures)))
+    returns)

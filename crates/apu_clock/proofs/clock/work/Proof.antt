@@ -16,7 +16,10 @@ frame-requires : tie.Need-frame-requires
 frame-requires c κs = search needs
 
 put-frame-requires : tie.Need-put-frame-requires
-put-frame-requires c κs = room-of _ _ (sym (c .before .before .before .before .before .before .before .before .all-have-room .ensures) ∙ c .before .before .before .before .before .before .before .if2 .taken)
+put-frame-requires c κs =
+    let room = c .before .before .before .before .before .before .before in
+    let asked = room .before in
+    room-of _ _ (sym (asked .all-have-room .ensures) ∙ room .if2 .taken)
 
 same-length : tie.Need-same-length
 same-length c = search needs

@@ -4,8 +4,15 @@ use Rattle.apu_clock.specs.Sequencer.{channelsClocked}
 use Rattle.apu_clock.proofs.sequencer.clock_channels.Statement.{statement}
 use Rattle.apu_clock.proofs.sequencer.clock_channels.Tie as tie
 
-pub clock-channels-spec : {M : Type 1} → statement M
+returns : tie.Need-returns
 unfolding channelsClocked
+returns c =
+    let wave = c .before in
+    let pulse2 = wave .before in
+    let pulse1 = pulse2 .before in
+    rw (c .clock4 .ensures, wave .clock3 .ensures, pulse2 .clock2 .ensures, pulse1 .clock .ensures)
+
+pub clock-channels-spec : {M : Type 1} → statement M
 clock-channels-spec =
     tie.close
     (tie.spec
@@ -13,4 +20,4 @@ clock-channels-spec =
     (λ c κs. search needs)
     (λ c κs. search needs)
     (λ c κs. search needs)
-    (λ c. rw (c .clock4 .ensures, c .before .clock3 .ensures, c .before .before .clock2 .ensures, c .before .before .before .clock .ensures)))
+    returns)

@@ -5,11 +5,27 @@ use Rattle.clocks.proofs.Totals.{frames-le}
 use Rattle.log_scan.proofs.answer.counted.Statement.{statement}
 use Rattle.log_scan.proofs.answer.counted.Tie as tie
 
+frame-bytes : tie.Need-mul-t3
+frame-bytes c =
+    let start = c .before in
+    let h = start .pre .halves in
+    let l = frames-le (start .args .sums .halves) in
+    rw (c .frames-of .ensures) (omega arith)
+
+all-bytes : tie.Need-add-t4
+all-bytes c =
+    let counted = c .before in
+    let start = counted .before in
+    let h = start .pre .halves in
+    let k = start .pre .«read_bytes» in
+    let l = frames-le (start .args .sums .halves) in
+    rw (counted .frames-of .ensures) (omega arith)
+
 pub counted-spec : {M : Type 1} → statement M
 counted-spec =
     tie.close
     (tie.spec
     (λ c κs. search needs)
-    (λ c. let h = c .before .pre .halves in let l = frames-le (c .before .args .sums .halves) in rw (c .frames-of .ensures) (omega arith))
-    (λ c. let h = c .before .before .pre .halves in let k = c .before .before .pre .«read_bytes» in let l = frames-le (c .before .before .args .sums .halves) in rw (c .before .frames-of .ensures) (omega arith))
+    frame-bytes
+    all-bytes
     (λ c. rw (c .before .frames-of .ensures)))
