@@ -8,11 +8,13 @@ use native.Mathlib.Omega.{arith}
 use Rattle.ground.specs.Iterate.{iterate}
 use Rattle.ground.proofs.Cases.{pick-true, pick-false, pick-holds, and-left, and-right}
 use Rattle.ground.proofs.Timers.{iterate-holds}
+use Rattle.channel_pulse.specs.Pulse as pulse
 use Rattle.channel_pulse.specs.Phase.{pulsePhaseClocked}
 use Rattle.channel_pulse.proofs.Phases as tones
+use Rattle.channel_wave.specs.Wave as wave
 use Rattle.channel_wave.specs.Phase.{wavePhaseClocked}
 use Rattle.channel_wave.proofs.Phases as swings
-use Rattle.channel_noise.specs.Noise.{reloadOf}
+use Rattle.channel_noise.specs.Noise as noise
 use Rattle.channel_noise.specs.Phase.{noisePhaseClocked}
 use Rattle.channel_noise.proofs.Phases as hisses
 use Rattle.apu.specs.Held.{Held, FloatsHeld}
@@ -25,10 +27,10 @@ module _ (s : Settings) where
   -- with power on, each part by itself
   pub moves : (n : ℕ) (m : Phases) → s .power ≡ true
       → record {
-        pulse1 = iterate n (pulsePhaseClocked (s .pulse1 .«first_trigger») (2047 - s .pulse1 .frequency)) (m .pulse1);
-        pulse2 = iterate n (pulsePhaseClocked (s .pulse2 .«first_trigger») (2047 - s .pulse2 .frequency)) (m .pulse2);
-        wave = iterate n (wavePhaseClocked (2047 - s .wave .frequency)) (m .wave);
-        noise = iterate n (noisePhaseClocked (s .noise .«step_mode_7_bits») (reloadOf (s .noise))) (m .noise);
+        pulse1 = iterate n (pulsePhaseClocked (s .pulse1 .«first_trigger») (pulse.reloadOf (s .pulse1))) (m .pulse1);
+        pulse2 = iterate n (pulsePhaseClocked (s .pulse2 .«first_trigger») (pulse.reloadOf (s .pulse2))) (m .pulse2);
+        wave = iterate n (wavePhaseClocked (wave.reloadOf (s .wave))) (m .wave);
+        noise = iterate n (noisePhaseClocked (s .noise .«step_mode_7_bits») (noise.reloadOf (s .noise))) (m .noise);
       }
       ≡ iterate n (phasesClocked s) m
   unfolding iterate phasesClocked
@@ -62,9 +64,9 @@ module _ (s : Settings) where
 -- ---- clocks no more than a period has, two for each of the wave's
 pub record Near (s : Settings) (n : ℕ) : Type 0 where
   pub some : 1 ≤ n
-  pub pulse1 : n ≤ 2047 - s .pulse1 .frequency + 1
-  pub pulse2 : n ≤ 2047 - s .pulse2 .frequency + 1
-  pub wave : n * 2 ≤ 2047 - s .wave .frequency + 1
+  pub pulse1 : n ≤ pulse.reloadOf (s .pulse1) + 1
+  pub pulse2 : n ≤ pulse.reloadOf (s .pulse2) + 1
+  pub wave : n * 2 ≤ wave.reloadOf (s .wave) + 1
 
 pub near-of : (s : Settings) (n : ℕ) (slow : Bool) → slow ≡ slowOf s → (slow && (leb 1 n && leb n 24)) ≡ true → Near s n
 near-of s n slow e h =

@@ -2,20 +2,22 @@
 use mathlib.Core.Path.{_≡_, refl, ap, _∙_}
 use mathlib.Core.Bool.{Bool, true, false}
 use mathlib.Core.List.{List, [], _++_, append-nil}
-use Prim.Native.Nat.{ℕ, _-_}
+use Prim.Native.Nat.{ℕ}
 use lib.Ieee.{Float}
 use Rattle.ground.specs.Pick.{pick}
 use Rattle.ground.specs.Iterate.{iterate}
 use Rattle.ground.proofs.Timers.{pick-ap, iterate-part}
 use Rattle.clocks.specs.Counter.{everyAt, tickBy}
 use Rattle.frame.specs.declared.converter.Converter.{Converter}
+use Rattle.channel_pulse.specs.Pulse as pulseChannel
 use Rattle.channel_pulse.specs.Phase.{pulsePhaseClocked}
 use Rattle.channel_pulse.proofs.Phases.{pulse-phase-part}
 use Rattle.channel_pulse.specs.declared.phase.PulsePhase.{PulsePhase}
+use Rattle.channel_wave.specs.Wave as waveChannel
 use Rattle.channel_wave.specs.Phase.{wavePhaseClocked}
 use Rattle.channel_wave.proofs.Phases.{wave-phase-part}
 use Rattle.channel_wave.specs.declared.phase.WavePhase.{WavePhase}
-use Rattle.channel_noise.specs.Noise.{reloadOf}
+use Rattle.channel_noise.specs.Noise as noiseChannel
 use Rattle.channel_noise.specs.Phase.{noisePhaseClocked}
 use Rattle.channel_noise.proofs.Phases.{noise-phase-part}
 use Rattle.channel_noise.specs.declared.phase.NoisePhase.{NoisePhase}
@@ -67,15 +69,18 @@ abbrev pub takeAt : Apu → Point → Take
 takeAt u p = record { apu = putBack u (p .1 .0) (p .1 .1) (p .0); bytes = p .1 .2 }
 
 -- ---- the channels
-pulse-part : (g : PulseGroup) (d : Converter) (t : PulsePhase) → pulse.clocked (pulseWith g d t) ≡ pulseWith g d (pulsePhaseClocked (g .channel .«first_trigger») (2047 - g .channel .frequency) t)
+pulse-part : (g : PulseGroup) (d : Converter) (t : PulsePhase)
+    → pulse.clocked (pulseWith g d t) ≡ pulseWith g d (pulsePhaseClocked (g .channel .«first_trigger») (pulseChannel.reloadOf (g .channel)) t)
 unfolding pulse.clocked
 pulse-part g d t = ap (pulse.withChannel (pulseWith g d t)) (pulse-phase-part (g .channel) t)
 
-wave-part : (g : WaveGroup) (d : Converter) (t : WavePhase) → wave.clocked (waveWith g d t) ≡ waveWith g d (wavePhaseClocked (2047 - g .channel .frequency) t)
+wave-part : (g : WaveGroup) (d : Converter) (t : WavePhase)
+    → wave.clocked (waveWith g d t) ≡ waveWith g d (wavePhaseClocked (waveChannel.reloadOf (g .channel)) t)
 unfolding wave.clocked
 wave-part g d t = ap (wave.withChannel (waveWith g d t)) (wave-phase-part (g .channel) t)
 
-noise-part : (g : NoiseGroup) (d : Converter) (t : NoisePhase) → noise.clocked (noiseWith g d t) ≡ noiseWith g d (noisePhaseClocked (g .channel .«step_mode_7_bits») (reloadOf (g .channel)) t)
+noise-part : (g : NoiseGroup) (d : Converter) (t : NoisePhase)
+    → noise.clocked (noiseWith g d t) ≡ noiseWith g d (noisePhaseClocked (g .channel .«step_mode_7_bits») (noiseChannel.reloadOf (g .channel)) t)
 unfolding noise.clocked
 noise-part g d t = ap (noise.withChannel (noiseWith g d t)) (noise-phase-part (g .channel) t)
 
@@ -84,15 +89,20 @@ module _ (u : Apu) where
       → channelsClocked (putBack u m k c)
       ≡ putBack u
       (record {
-        pulse1 = pulsePhaseClocked (u .pulse1 .channel .«first_trigger») (2047 - u .pulse1 .channel .frequency) (m .pulse1);
-        pulse2 = pulsePhaseClocked (u .pulse2 .channel .«first_trigger») (2047 - u .pulse2 .channel .frequency) (m .pulse2);
-        wave = wavePhaseClocked (2047 - u .wave .channel .frequency) (m .wave);
-        noise = noisePhaseClocked (u .noise .channel .«step_mode_7_bits») (reloadOf (u .noise .channel)) (m .noise);
+        pulse1 = pulsePhaseClocked (u .pulse1 .channel .«first_trigger») (pulseChannel.reloadOf (u .pulse1 .channel)) (m .pulse1);
+        pulse2 = pulsePhaseClocked (u .pulse2 .channel .«first_trigger») (pulseChannel.reloadOf (u .pulse2 .channel)) (m .pulse2);
+        wave = wavePhaseClocked (waveChannel.reloadOf (u .wave .channel)) (m .wave);
+        noise = noisePhaseClocked (u .noise .channel .«step_mode_7_bits») (noiseChannel.reloadOf (u .noise .channel)) (m .noise);
       })
       k c
   unfolding channelsClocked
   clocked-part m k c =
-      rw (pulse-part (u .pulse1) (k .pulse1) (m .pulse1), pulse-part (u .pulse2) (k .pulse2) (m .pulse2), wave-part (u .wave) (k .wave) (m .wave), noise-part (u .noise) (k .noise) (m .noise))
+      rw (
+        pulse-part (u .pulse1) (k .pulse1) (m .pulse1),
+        pulse-part (u .pulse2) (k .pulse2) (m .pulse2),
+        wave-part (u .wave) (k .wave) (m .wave),
+        noise-part (u .noise) (k .noise) (m .noise),
+      )
 
   move-part : (m : Phases) (k : Converters) (c : Float) → passing (putBack u m k c) ≡ putBack u (phasesClocked (settingsOf u) m) k c
   unfolding passing phasesClocked
@@ -100,14 +110,18 @@ module _ (u : Apu) where
       ap (λ (x : Apu). pick (u .power) x (putBack u m k c)) (clocked-part m k c) ∙ pick-ap (λ (n : Phases). putBack u n k c) (u .power) _ m
 
   -- ---- a frame
-  push-part : (m : Phases) (k : Converters) (c : Float) → let s = frameStepOf (settingsOf u) m k in _≡_ {A = Framed} (pushed (putBack u m k c)) (record { apu = putBack u m (s .converters) c; mix = s .mix })
+  push-part : (m : Phases) (k : Converters) (c : Float) → let s = frameStepOf (settingsOf u) m k in
+      _≡_ {A = Framed} (pushed (putBack u m k c)) (record { apu = putBack u m (s .converters) c; mix = s .mix })
   unfolding pushed pulse.sounded wave.sounded noise.sounded frameStepOf
   push-part m k c = refl
 
   -- ---- a working clock on a unit whose parts were put back moves those parts
   abbrev one : Float → Rest → Framed → Bool → Take
   one c a f b =
-      record { apu = passing (withClocks (pick b (f .apu) (putBack u (a .0) (a .1) c)) (next c) (u .«clocks_counter»)); bytes = a .2 ++ pick b (mixItem (f .mix)) [] }
+      record {
+        apu = passing (withClocks (pick b (f .apu) (putBack u (a .0) (a .1) c)) (next c) (u .«clocks_counter»));
+        bytes = a .2 ++ pick b (mixItem (f .mix)) [];
+      }
 
   by-frame : (c : Float) (a : Rest) (b : Bool)
       → one c a (pushed (putBack u (a .0) (a .1) c)) b ≡ takeAt u (next c, restClock (settingsOf u) (pick b (restFrame (settingsOf u) a) a))

@@ -12,7 +12,7 @@ use Rattle.ground.proofs.Timers.{iterate-add}
 use Rattle.clocks.specs.Calls.{K}
 use Rattle.clocks.specs.Distance.{unitsIn, awayOf}
 use Rattle.clocks.proofs.Distances.{units, away-some, after-below, kept-below}
-use Rattle.log_items.specs.Items.{mixItem, silence}
+use Rattle.log_items.specs.Items.{mixItem, silence, frameLength}
 use Rattle.log_items.proofs.Stores.{sets-append}
 use Rattle.apu.specs.Held.{Held, FloatsHeld}
 use Rattle.apu.specs.declared.Apu.{Apu}
@@ -133,11 +133,11 @@ module _ {r : Task} {s : State} (g : Resting r s) where
             (turn (settingsOf u) (phasesOf u) (convertersOf u) (s .units) (g .bytes) (s .left) (s .waiting) (g .below) _ (rw e at h) refl)
             ∙ g .same
 
-    more-long : length more ≡ length (g .bytes) + 41
+    more-long : length more ≡ length (g .bytes) + frameLength
     unfolding mixItem
     more-long = length-append (g .bytes) (mixItem silence)
 
-    pub silent-room : s .at + 41 ≤ length (s .out)
+    pub silent-room : s .at + frameLength ≤ length (s .out)
     silent-room =
         let first : Point = (units later, (iterate (s .waiting + s .due) move (phasesOf u), convertersOf u, more)) in
         let under : length more ≤ length (whole r .1 .2) =
@@ -145,11 +145,11 @@ module _ {r : Task} {s : State} (g : Resting r s) where
         fits (s .at) (r .start) (length (g .bytes)) (length more) (length (whole r .1 .2)) (length (r .out)) (length (s .out))
         (g .place) more-long under (g .room) out-long
       where
-        fits : (at start n w f a b : ℕ) → at ≡ start + n → w ≡ n + 41 → w ≤ f → start + f ≤ a → b ≡ a → at + 41 ≤ b
+        fits : (at start n w f a b : ℕ) → at ≡ start + n → w ≡ n + frameLength → w ≤ f → start + f ≤ a → b ≡ a → at + frameLength ≤ b
         fits at start n w f a b e h i j k = omega arith
 
     pub resting-on : {out : List ℕ} {x due : ℕ} → out ≡ sets (s .out) (s .at) (mixItem silence) → x ≡ later → due ≡ awayOf (units x)
-        → Resting r (record { out = out; units = x; due = due; left = s .left - s .due; at = s .at + 41; waiting = s .waiting + s .due })
+        → Resting r (record { out = out; units = x; due = due; left = s .left - s .due; at = s .at + frameLength; waiting = s .waiting + s .due })
     resting-on {out} {x} {due} oe xe de =
         record {
           bytes = more;
@@ -171,7 +171,7 @@ module _ {r : Task} {s : State} (g : Resting r s) where
         kept : (w left due : ℕ) → due ≤ left → w + left ≤ 32767 → w + due + (left - due) ≤ 32767
         kept w left due h f = omega arith
 
-        placed : (at start n w : ℕ) → at ≡ start + n → w ≡ n + 41 → at + 41 ≡ start + w
+        placed : (at start n w : ℕ) → at ≡ start + n → w ≡ n + frameLength → at + frameLength ≡ start + w
         placed at start n w e h = omega arith
 
   -- ---- no frame is left: what the channels wait for is a run of a unit that is behind

@@ -33,7 +33,7 @@ use Rattle.channel_noise.specs.declared.phase.NoisePhase.{NoisePhase}
 use Rattle.channel_noise.proofs.Ranges.{noise-output-le}
 use Rattle.channel_noise.proofs.Phases.{with-noise-phase-held}
 use Rattle.frame.specs.declared.mixing.Mix.{Mix}
-use Rattle.log_items.specs.Items.{mixItem, Known}
+use Rattle.log_items.specs.Items.{mixItem, Known, frameLength}
 use Rattle.log_items.proofs.Stores.{sets-append}
 use Rattle.apu.specs.declared.Apu.{Apu}
 use Rattle.apu_run.specs.Working.{ranOf}
@@ -133,7 +133,7 @@ pub record Running (r : Task) (s : State) : Type 0 where
   pub stored : s .out ≡ sets (r .out) (r .start) bytes
   pub same : from (r .settings) (s .left) (s .units) (s .pending) (s .phases) (s .converters) bytes ≡ whole r
 
-item-long : (m : Mix) → length (mixItem m) ≡ 41
+item-long : (m : Mix) → length (mixItem m) ≡ frameLength
 unfolding mixItem
 item-long m = refl
 
@@ -266,7 +266,7 @@ module _ {r : Task} {s : State} {m : Phases} {f : FrameStep} (v : Framed r s m f
   abbrev later : ℕ
   later = s .units + s .due * 2 ^ 48 - K
 
-  bytes-long : length bytes ≡ length (before .bytes) + 41
+  bytes-long : length bytes ≡ length (before .bytes) + frameLength
   bytes-long = length-append (before .bytes) (mixItem (f .mix)) ∙ ap (λ (n : ℕ). length (before .bytes) + n) (item-long (f .mix))
 
   onward : from (r .settings) (s .left - s .due) later 1 m (f .converters) bytes ≡ whole r
@@ -288,19 +288,19 @@ module _ {r : Task} {s : State} {m : Phases} {f : FrameStep} (v : Framed r s m f
   pub framed-known : Known (f .mix)
   framed-known = rw (v .is) (frame-step-known (r .settings) m (s .converters) (before .held) (moved-held (v .moved)) (before .converters))
 
-  pub framed-room : s .at + 41 ≤ length (s .out)
+  pub framed-room : s .at + frameLength ≤ length (s .out)
   framed-room =
       let last : Point = (units later, (iterate 1 (phasesClocked (r .settings)) m, f .converters, bytes)) in
       let under : length bytes ≤ length (whole r .1 .2) = rw (ap (λ (p : Point). length (p .1 .2)) onward) at (grows (r .settings) (s .left - s .due) last) in
       fits (s .at) (r .start) (length (before .bytes)) (length bytes) (length (whole r .1 .2)) (length (r .out)) (length (s .out))
       (before .place) bytes-long under (before .room) (out-long before)
     where
-      fits : (at start n w f a b : ℕ) → at ≡ start + n → w ≡ n + 41 → w ≤ f → start + f ≤ a → b ≡ a → at + 41 ≤ b
+      fits : (at start n w f a b : ℕ) → at ≡ start + n → w ≡ n + frameLength → w ≤ f → start + f ≤ a → b ≡ a → at + frameLength ≤ b
       fits at start n w f a b e h i j k = omega arith
 
   pub running-on : {out : List ℕ} {x due : ℕ} → out ≡ sets (s .out) (s .at) (mixItem (f .mix)) → x ≡ later → due ≡ awayOf (units x)
       → Running r
-      (record { out = out; phases = m; converters = f .converters; units = x; due = due; left = s .left - s .due; at = s .at + 41; pending = 1 })
+      (record { out = out; phases = m; converters = f .converters; units = x; due = due; left = s .left - s .due; at = s .at + frameLength; pending = 1 })
   running-on {out} {x} {due} oe xe de =
       record {
         bytes = bytes;
@@ -320,7 +320,7 @@ module _ {r : Task} {s : State} {m : Phases} {f : FrameStep} (v : Framed r s m f
         same = ap (λ (y : ℕ). from (r .settings) (s .left - s .due) y 1 m (f .converters) bytes) xe ∙ onward;
       }
     where
-      placed : (at start n w : ℕ) → at ≡ start + n → w ≡ n + 41 → at + 41 ≡ start + w
+      placed : (at start n w : ℕ) → at ≡ start + n → w ≡ n + frameLength → at + frameLength ≡ start + w
       placed at start n w e h = omega arith
 
       fewer : (pending left due : ℕ) → 0 < due → due ≤ left → pending + left ≤ 32767 → 1 + (left - due) ≤ 32767

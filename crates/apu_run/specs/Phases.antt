@@ -1,5 +1,5 @@
 -- What the working clocks of the four channels move, and what they leave as it is. Assumes nothing.
-use Prim.Native.Nat.{ℕ, _-_}
+use Prim.Native.Nat.{ℕ}
 use mathlib.Core.Bool.{Bool, _&&_}
 use lib.Dec.{leb}
 use lib.Ieee.{Float}
@@ -76,9 +76,9 @@ pub record ConvertersHeld (k : Converters) : Type 0 where
 abbrev pub tonesAfter : Settings → ℕ → Phases → TonePhases
 tonesAfter s n m =
     record {
-      pulse1 = iterate n (pulsePhaseClocked (s .pulse1 .«first_trigger») (2047 - s .pulse1 .frequency)) (m .pulse1);
-      pulse2 = iterate n (pulsePhaseClocked (s .pulse2 .«first_trigger») (2047 - s .pulse2 .frequency)) (m .pulse2);
-      wave = iterate n (wavePhaseClocked (2047 - s .wave .frequency)) (m .wave);
+      pulse1 = iterate n (pulsePhaseClocked (s .pulse1 .«first_trigger») (pulse.reloadOf (s .pulse1))) (m .pulse1);
+      pulse2 = iterate n (pulsePhaseClocked (s .pulse2 .«first_trigger») (pulse.reloadOf (s .pulse2))) (m .pulse2);
+      wave = iterate n (wavePhaseClocked (wave.reloadOf (s .wave))) (m .wave);
     }
 
 -- (for the code alone: whether their timers step once at most in 24 of them)
@@ -90,9 +90,9 @@ unfoldable pub phasesClocked : Settings → Phases → Phases
 phasesClocked s m =
     pick (s .power)
     (record {
-      pulse1 = pulsePhaseClocked (s .pulse1 .«first_trigger») (2047 - s .pulse1 .frequency) (m .pulse1);
-      pulse2 = pulsePhaseClocked (s .pulse2 .«first_trigger») (2047 - s .pulse2 .frequency) (m .pulse2);
-      wave = wavePhaseClocked (2047 - s .wave .frequency) (m .wave);
+      pulse1 = pulsePhaseClocked (s .pulse1 .«first_trigger») (pulse.reloadOf (s .pulse1)) (m .pulse1);
+      pulse2 = pulsePhaseClocked (s .pulse2 .«first_trigger») (pulse.reloadOf (s .pulse2)) (m .pulse2);
+      wave = wavePhaseClocked (wave.reloadOf (s .wave)) (m .wave);
       noise = noisePhaseClocked (s .noise .«step_mode_7_bits») (noise.reloadOf (s .noise)) (m .noise);
     })
     m

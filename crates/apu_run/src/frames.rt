@@ -23,6 +23,7 @@ use clocks::distance::later;
 use clocks::distance::past_frame;
 use clocks::distance::units_of;
 use clocks::distance::until;
+use log_items::items::FRAME_BYTES;
 use log_items::items::put_mix;
 use log_items::items::put_silence;
 
@@ -88,7 +89,7 @@ fn sound_from(
         let step = step_frame(frame_settings, phases, converters, &ram);
         put_mix(out, at, step.mix);
         converters = step.converters;
-        at += 41;
+        at += FRAME_BYTES;
         units = past_frame(units, due);
         left -= due;
         pending = 1;
@@ -137,7 +138,7 @@ pub fn rest(unit: Apu, count: u32, out: &mut [u8], start: usize) -> Parts
     let mut waiting = 0u32;
     while due <= left {
         put_silence(out, at);
-        at += 41;
+        at += FRAME_BYTES;
         units = past_frame(units, due);
         left -= due;
         waiting += due;

@@ -1,4 +1,5 @@
-// The unit in three parts: what a run leaves as it is, what moves with each clock, what moves with each frame. Small records go through a loop faster than the unit.
+// The unit in three parts: what a run leaves as it is, what moves with each clock, what moves with each frame. Small records go through a loop faster than
+// the unit.
 ghost use mathlib.Core.Path.{_≡_};
 ghost use Prim.Native.Nat.{_≤_};
 ghost use Rattle.ground.specs.Iterate.{iterate};
@@ -127,9 +128,9 @@ fn advance_tones(phases: Phases, settings: Settings, n: u32) -> TonePhases
     let first = settings.pulse1;
     let second = settings.pulse2;
     let third = settings.wave;
-    let reload1 = (2047 - first.frequency) as u32;
-    let reload2 = (2047 - second.frequency) as u32;
-    let reload3 = (2047 - third.frequency) as u32;
+    let reload1 = first.reload() as u32;
+    let reload2 = second.reload() as u32;
+    let reload3 = third.reload() as u32;
     if slow(settings) & ((1 <= n) & (n <= 24)) {
         return TonePhases {
             pulse1: pulse1.advance_near(first.first_trigger, reload1, n),

@@ -10,7 +10,7 @@ use Rattle.ground.specs.Timer.{countedDown}
 use Rattle.ground.specs.declared.timer.CountedDown.{CountedDown}
 use Rattle.ground.proofs.Cases.{pick-true, pick-false, both-ways}
 use Rattle.ground.proofs.Timers.{turns, ran, iterate-holds, pick-ap, reload-back, less-one}
-use Rattle.channel_pulse.specs.Pulse.{Held, ticked, clocked}
+use Rattle.channel_pulse.specs.Pulse.{Held, reloadOf, ticked, clocked}
 use Rattle.channel_pulse.specs.Phase.{PulsePhaseHeld, pulsePhaseOf, withPulsePhase, pulsePhaseClocked}
 use Rattle.channel_pulse.specs.declared.phase.PulsePhase.{PulsePhase}
 use Rattle.channel_pulse.specs.declared.pulse_channel.PulseChannel.{PulseChannel}
@@ -53,7 +53,7 @@ pulse-phase-either false a r n run h e = pulse-phase-ran a r 0 run h e ∙ sym (
 
 -- ---- the channel's clock
 pub pulse-phase-part : (p : PulseChannel) (t : PulsePhase)
-    → clocked (withPulsePhase p t) ≡ withPulsePhase p (pulsePhaseClocked (p .«first_trigger») (2047 - p .frequency) t)
+    → clocked (withPulsePhase p t) ≡ withPulsePhase p (pulsePhaseClocked (p .«first_trigger») (reloadOf p) t)
 unfolding clocked ticked pulsePhaseClocked
 pulse-phase-part p t =
     ap (λ (x : PulseChannel). pick (p .«first_trigger») x (withPulsePhase p t)) (pick-ap (withPulsePhase p) (eqb (t .«frequency_timer») 0) _ _)

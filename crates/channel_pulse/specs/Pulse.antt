@@ -50,11 +50,15 @@ sweepWritten p value =
 unfoldable pub enveloped : PulseChannel → ℕ → PulseChannel
 enveloped p value = dacSet (withEnvelope p (envelope.written (p .envelope) value)) (leb 8 value)
 
--- "A timer at 0 steps its channel and reloads, else loses 1. Pulse and wave reload to 2047 - frequency"
+-- "Pulse and wave reload to 2047 - frequency"
+abbrev pub reloadOf : PulseChannel → ℕ
+reloadOf p = 2047 - p .frequency
+
+-- "A timer at 0 steps its channel and reloads, else loses 1"
 unfoldable pub ticked : PulseChannel → PulseChannel
 ticked p =
     pick (eqb (p .«frequency_timer») 0)
-    (withTimer (withPosition p ((p .«sequencer_position» + 1) % 8)) (2047 - p .frequency))
+    (withTimer (withPosition p ((p .«sequencer_position» + 1) % 8)) (reloadOf p))
     (withTimer p (p .«frequency_timer» - 1))
 
 -- "A pulse stands still until its first trigger"
@@ -67,7 +71,7 @@ sweepClocked p =
     let swept = sweep.clocked (p .sweep) (p .frequency) in
     withFrequency (withOn (withSweep p (swept .sweep)) (p .«channel_enabled» && not (swept .off))) (swept .frequency)
 
--- "A trigger turns the channel on if its DAC is on, before the channel's own trigger rules"; "reload to 2047 - frequency, a pulse trigger too"
+-- "A trigger turns the channel on if its DAC is on, before the channel's own trigger rules"; "reload .. a pulse trigger too"
 unfoldable pub triggered : PulseChannel → PulseChannel
 triggered p =
     let after = sweep.triggered (p .sweep) (p .frequency) in
@@ -77,7 +81,7 @@ triggered p =
       duty = p .duty;
       envelope = envelope.triggered (p .envelope);
       frequency = p .frequency;
-      «frequency_timer» = 2047 - p .frequency;
+      «frequency_timer» = reloadOf p;
       «channel_enabled» = (p .«channel_enabled» || p .«dac_enable») && not (after .off);
       «first_trigger» = true;
       «dac_enable» = p .«dac_enable»;

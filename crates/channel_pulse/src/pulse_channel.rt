@@ -1,7 +1,7 @@
 // A pulse channel: `PulseChannel` of pulse_channel.rs, with its on/off rules from channel.rs.
 ghost use mathlib.Core.Path.{_≡_};
 ghost use Rattle.channel_pulse.specs.Pulse.{Held, fresh, dutyWritten, dacSet, sweepWritten, enveloped, ticked, clocked, sweepClocked, triggered};
-ghost use Rattle.channel_pulse.specs.Pulse.{dutyRow, outputOf, mutedOf};
+ghost use Rattle.channel_pulse.specs.Pulse.{reloadOf, dutyRow, outputOf, mutedOf};
 ghost use Rattle.channel_pulse.specs.With.{withPosition, withFrequency, withOn};
 ghost use Rattle.channel_pulse.specs.Phase.{PulsePhaseHeld, pulsePhaseOf, withPulsePhase};
 use crate::phase::PulsePhase;
@@ -122,6 +122,14 @@ impl PulseChannel {
         next
     }
 
+    // What the timer reloads to.
+    pub fn reload(self) -> u16
+        requires { ⌜ Held self ⌝ }
+        ensures { λ r. ⌜ r ≡ reloadOf self ⌝ }
+    {
+        2047 - self.frequency
+    }
+
     // The timer's step: at 0 the position goes on and the timer reloads.
     fn tick(self) -> PulseChannel
         requires { ⌜ Held self ⌝ }
@@ -130,7 +138,7 @@ impl PulseChannel {
         let mut next = self;
         if self.frequency_timer == 0 {
             next.sequencer_position = (self.sequencer_position + 1) % 8;
-            next.frequency_timer = 2047 - self.frequency;
+            next.frequency_timer = self.reload();
             next
         } else {
             next.frequency_timer = self.frequency_timer - 1;
@@ -203,7 +211,7 @@ impl PulseChannel {
             duty: self.duty,
             envelope: started,
             frequency: self.frequency,
-            frequency_timer: 2047 - self.frequency,
+            frequency_timer: self.reload(),
             channel_enabled: (self.channel_enabled | self.dac_enable) & !checked.off,
             first_trigger: true,
             dac_enable: self.dac_enable,

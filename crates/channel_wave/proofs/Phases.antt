@@ -13,7 +13,7 @@ use Rattle.ground.specs.declared.timer.CountedDown.{CountedDown}
 use Rattle.ground.proofs.Cases.{pick-true, pick-false, both-ways}
 use Rattle.ground.proofs.Timers.{iterate-twice, iterate-part, iterate-holds, turns, settled, settled-some, up-to, beyond, run-still, run-more}
 use Rattle.ground.proofs.Timers.{pick-ap, reload-back, less-one}
-use Rattle.channel_wave.specs.Wave.{Held, timerClocked, clocked}
+use Rattle.channel_wave.specs.Wave.{Held, reloadOf, timerClocked, clocked}
 use Rattle.channel_wave.specs.Phase.{WavePhaseHeld, wavePhaseOf, withWavePhase, phaseTimerClocked, wavePhaseClocked}
 use Rattle.channel_wave.specs.declared.phase.WavePhase.{WavePhase}
 use Rattle.channel_wave.specs.declared.wave_channel.WaveChannel.{WaveChannel}
@@ -136,13 +136,13 @@ unfolding iterate
 wave-phase-none reload w = refl
 
 -- ---- the channel's clock
-half-part : (w : WaveChannel) (s : WavePhase) → timerClocked (withWavePhase w s) ≡ withWavePhase w (phaseTimerClocked (2047 - w .frequency) s)
+half-part : (w : WaveChannel) (s : WavePhase) → timerClocked (withWavePhase w s) ≡ withWavePhase w (phaseTimerClocked (reloadOf w) s)
 unfolding timerClocked phaseTimerClocked
 half-part w s = pick-ap (withWavePhase w) (eqb (s .«frequency_timer») 0) _ _
 
-pub wave-phase-part : (w : WaveChannel) (s : WavePhase) → clocked (withWavePhase w s) ≡ withWavePhase w (wavePhaseClocked (2047 - w .frequency) s)
+pub wave-phase-part : (w : WaveChannel) (s : WavePhase) → clocked (withWavePhase w s) ≡ withWavePhase w (wavePhaseClocked (reloadOf w) s)
 unfolding clocked wavePhaseClocked
-wave-phase-part w s = ap timerClocked (half-part w s) ∙ half-part w (phaseTimerClocked (2047 - w .frequency) s)
+wave-phase-part w s = ap timerClocked (half-part w s) ∙ half-part w (phaseTimerClocked (reloadOf w) s)
 
 -- ---- the ranges
 half-held : (r : ℕ) (a : WavePhase) → r ≤ 2047 → WavePhaseHeld a → WavePhaseHeld (phaseTimerClocked r a)

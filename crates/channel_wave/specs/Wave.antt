@@ -75,11 +75,15 @@ storedIn buffer Nowhere value = buffer
 unfoldable pub stored : WaveChannel → Bool → ℕ → ℕ → WaveChannel
 stored w dmg offset value = withBuffer w (storedIn (w .buffer) (indexOf w dmg offset) value)
 
--- one clock of its timer: "A timer at 0 steps its channel and reloads, else loses 1. Pulse and wave reload to 2047 - frequency"
+-- "Pulse and wave reload to 2047 - frequency"
+abbrev pub reloadOf : WaveChannel → ℕ
+reloadOf w = 2047 - w .frequency
+
+-- one clock of its timer: "A timer at 0 steps its channel and reloads, else loses 1"
 unfoldable pub timerClocked : WaveChannel → WaveChannel
 timerClocked w =
     pick (eqb (w .«frequency_timer») 0)
-    (withPositionAndTimer w ((w .«buffer_position» + 1) % 32) true (2047 - w .frequency))
+    (withPositionAndTimer w ((w .«buffer_position» + 1) % 32) true (reloadOf w))
     (withPositionAndTimer w (w .«buffer_position») false (w .«frequency_timer» - 1))
 
 -- "The wave is clocked twice; "just clocked" is about the second"

@@ -1,7 +1,7 @@
 // The wave channel: `WaveChannel` of wave_channel.rs, with its on/off rules from channel.rs. The model, DMG or not, is handed in.
 ghost use mathlib.Core.Path.{_≡_};
 ghost use Prim.Native.Nat.{_≤_};
-ghost use Rattle.channel_wave.specs.Wave.{Held, fresh, shiftOf, volumeWritten, dacSet, indexOf, byteAt, stored, timerClocked, clocked};
+ghost use Rattle.channel_wave.specs.Wave.{Held, fresh, shiftOf, volumeWritten, dacSet, indexOf, byteAt, stored, reloadOf, timerClocked, clocked};
 ghost use Rattle.channel_wave.specs.Wave.{fourFrom, rewritten, bufferAtTrigger, triggered, nibbleOf, outputOf, mutedOf};
 ghost use Rattle.channel_wave.specs.With.{withFrequency, withPosition, withOn};
 ghost use Rattle.channel_wave.specs.Phase.{WavePhaseHeld, wavePhaseOf, withWavePhase};
@@ -173,6 +173,14 @@ impl WaveChannel {
         }
     }
 
+    // What the timer reloads to.
+    pub fn reload(self) -> u16
+        requires { ⌜ Held self ⌝ }
+        ensures { λ r. ⌜ r ≡ reloadOf self ⌝ }
+    {
+        2047 - self.frequency
+    }
+
     // One of the two clocks of its timer that a working clock has.
     fn clock_timer(self) -> WaveChannel
         requires { ⌜ Held self ⌝ }
@@ -182,7 +190,7 @@ impl WaveChannel {
         if self.frequency_timer == 0 {
             next.buffer_position = (self.buffer_position + 1) % 32;
             next.buffer_position_just_clocked = true;
-            next.frequency_timer = 2047 - self.frequency;
+            next.frequency_timer = self.reload();
             next
         } else {
             next.buffer_position_just_clocked = false;

@@ -4,9 +4,19 @@ ghost use Prim.Native.Nat.{_+_, _-_, _≤_};
 ghost use lib.ListN.{length, replicate};
 ghost use lib.Seq.{sets};
 ghost use Rattle.frame.specs.Held.{Numbers};
-ghost use Rattle.log_items.specs.Items.{be32, swappedOf, sidesBytes, readItem, pcmItem, mixItem, Known, silence};
+ghost use Rattle.log_items.specs.Items.{be32, swappedOf, sidesBytes, readItem, pcmItem, mixItem, frameLength, Known, silence};
 use frame::mixing::Mix;
 use frame::mixing::Sides;
+
+// The letters that begin the items: R, P and F.
+pub const READ: u8 = 0x52;
+
+pub const PCM: u8 = 0x50;
+
+pub const FRAME: u8 = 0x46;
+
+// How many bytes a frame's item has.
+pub const FRAME_BYTES: usize = 41;
 
 // The number with its four bytes in the other order. Stored low byte first it is a single store, and the compiler stores four such numbers at once; the
 // number itself, stored high byte first, it would take apart byte by byte.
@@ -36,7 +46,7 @@ pub fn put_read(out: &mut [u8], at: usize, byte: u8)
     requires { ⌜ at + 2 ≤ length (now out) ⌝ }
     ensures { λ _. ⌜ now (out .exit) ≡ sets (now (out .entry)) at (readItem byte) ⌝ }
 {
-    out[at] = 0x52;
+    out[at] = READ;
     out[at + 1] = byte;
 }
 
@@ -45,7 +55,7 @@ pub fn put_pcm(out: &mut [u8], at: usize, pcm12: u8, pcm34: u8)
     requires { ⌜ at + 3 ≤ length (now out) ⌝ }
     ensures { λ _. ⌜ now (out .exit) ≡ sets (now (out .entry)) at (pcmItem pcm12 pcm34) ⌝ }
 {
-    out[at] = 0x50;
+    out[at] = PCM;
     out[at + 1] = pcm12;
     out[at + 2] = pcm34;
 }
@@ -62,11 +72,11 @@ fn put_numbers(out: &mut [u8], at: usize, sides: Sides)
 
 // A frame: hex 46 and the patterns of its ten numbers.
 pub fn put_mix(out: &mut [u8], at: usize, mix: Mix)
-    requires { ⌜ at + 41 ≤ length (now out) ⌝ }
+    requires { ⌜ at + frameLength ≤ length (now out) ⌝ }
     requires { ⌜ Known mix ⌝ }
     ensures { λ _. ⌜ now (out .exit) ≡ sets (now (out .entry)) at (mixItem mix) ⌝ }
 {
-    out[at] = 0x46;
+    out[at] = FRAME;
     put_numbers(out, at + 1, mix.pulse1);
     put_numbers(out, at + 9, mix.pulse2);
     put_numbers(out, at + 17, mix.wave);
@@ -88,9 +98,9 @@ fn put_zeros(out: &mut [u8], from: usize, to: usize)
 
 // A frame of which every number is 0.
 pub fn put_silence(out: &mut [u8], at: usize)
-    requires { ⌜ at + 41 ≤ length (now out) ⌝ }
+    requires { ⌜ at + frameLength ≤ length (now out) ⌝ }
     ensures { λ _. ⌜ now (out .exit) ≡ sets (now (out .entry)) at (mixItem silence) ⌝ }
 {
-    out[at] = 0x46;
-    put_zeros(out, at + 1, at + 41);
+    out[at] = FRAME;
+    put_zeros(out, at + 1, at + FRAME_BYTES);
 }

@@ -12,6 +12,7 @@ use Rattle.log_scan.specs.declared.answer.LogAnswer.the-variants.{Done, 
 use Rattle.log_scan.specs.declared.scan.Mark.{Mark}
 use Rattle.log_scan.specs.declared.scan.Mark.the-variants.{Clear, At}
 use Rattle.log_scan.specs.declared.scan.Sums.{Sums}
+use Rattle.log_items.specs.Items.{frameLength}
 use Rattle.log_records.specs.Records.{recordsFrom, listed}
 use Rattle.log_scan.specs.Scan.{wrongIn, summed}
 
@@ -81,9 +82,9 @@ refusedWithin room needed s = pick (tooLong s) 3 (pick (badStart s) 4 (pick (has
 
 -- ---- what a log is answered
 
--- the bytes that playing makes: 41 for a frame ("hex 46 and ten f32 patterns"), and those of reads
+-- the bytes that playing makes: those of frames and of reads
 abbrev pub bytesBy : Sums → ℕ
-bytesBy sums = framesOf (sums .halves) * 41 + sums .«read_bytes»
+bytesBy sums = framesOf (sums .halves) * frameLength + sums .«read_bytes»
 
 -- "The answer carries bytes written, frames, and the number of clock calls that the records asked for", and the records
 abbrev pub doneAs : ℕ → ℕ → Sums → LogAnswer

@@ -12,6 +12,7 @@ use crate::scan::Mark;
 use crate::scan::Sums;
 use crate::scan::scan_list;
 use clocks::meter::frames_of;
+use log_items::items::FRAME_BYTES;
 
 // What playing a log answers: what was done, or why it was refused.
 pub enum LogAnswer {
@@ -48,7 +49,7 @@ fn counted(sums: Sums) -> LogAnswer
 {
     let frames = frames_of(sums.halves);
     LogAnswer::Done {
-        written: frames * 41 + sums.read_bytes,
+        written: frames * FRAME_BYTES as u64 + sums.read_bytes,
         frames,
         clocks: sums.calls,
         records: sums.records,

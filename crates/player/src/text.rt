@@ -2,15 +2,13 @@
 // a full buffer is written out.
 ghost use Prim.Native.Nat.{_≤_, _<_};
 ghost use lib.ListN.{length};
+use log_items::items::FRAME;
+use log_items::items::FRAME_BYTES;
+use log_items::items::READ;
 
 const SPACE: u8 = 32;
 
 const NEW_LINE: u8 = 10;
-
-// The letters that begin a frame's and a read's item, and their lines.
-const FRAME: u8 = 0x46;
-
-const READ: u8 = 0x52;
 
 // One byte more; the next place is handed back.
 fn put(text: &mut [u8], at: usize, byte: u8) -> usize {
@@ -93,7 +91,7 @@ fn length_of(letter: u8) -> usize
     ensures { λ r. ⌜ 0 < r ⌝ }
 {
     if letter == FRAME {
-        41
+        FRAME_BYTES
     } else if letter == READ {
         2
     } else {

@@ -5,11 +5,6 @@ use Rattle.apu_run.proofs.Moves.{near-of}
 use Rattle.apu_run.proofs.phases.advance_tones.Statement.{statement}
 use Rattle.apu_run.proofs.phases.advance_tones.Tie as tie
 
-sub-reload3 : tie.Need-sub-reload3
-sub-reload3 c =
-    let start = c .before .before .before .before .before .before .before .before .before in
-    omega (arith, start .pre .1 .0 .wave .frequency)
-
 advance-near-requires : tie.Need-advance-near-requires
 advance-near-requires c κs =
     let if1 = c .if1 in
@@ -42,7 +37,10 @@ returns c =
     let advance-near3 = c .advance-near3 in
     let advance-near2 = c .before .advance-near2 in
     let advance-near = c .before .before .advance-near in
-    rw (advance-near3 .ensures, advance-near2 .ensures, advance-near .ensures)
+    let third = c .before .before .before .before .before in
+    let second = third .before in
+    let first = second .before in
+    rw (advance-near3 .ensures, advance-near2 .ensures, advance-near .ensures, third .reload3 .ensures, second .reload2 .ensures, first .reload .ensures)
 
 advance-requires-3 : tie.Need-advance-requires-3
 advance-requires-3 c κs =
@@ -55,17 +53,20 @@ returns-2 c =
     let advance3 = c .advance3 in
     let advance2 = c .before .advance2 in
     let advance = c .before .before .advance in
-    rw (advance3 .ensures, advance2 .ensures, advance .ensures)
+    let third = c .before .before .before .before .before in
+    let second = third .before in
+    let first = second .before in
+    rw (advance3 .ensures, advance2 .ensures, advance .ensures, third .reload3 .ensures, second .reload2 .ensures, first .reload .ensures)
 
 pub advance-tones-spec : {M : Type 1} → statement M
 advance-tones-spec =
     tie.close
     (tie.spec
+    (λ c κs. search needs)
     (λ c. search needs)
+    (λ c κs. search needs)
     (λ c. search needs)
-    (λ c. search needs)
-    (λ c. search needs)
-    sub-reload3
+    (λ c κs. search needs)
     (λ c. search needs)
     (λ c κs. search needs)
     advance-near-requires

@@ -8,16 +8,16 @@ use denote.Ref.{now}
 use lib.Ieee.{ofBits, toBits}
 use lib.ListN.{set, replicate, length-set}
 use lib.Seq.{sets}
-use Rattle.log_items.specs.Items.{mixItem, silence}
+use Rattle.log_items.specs.Items.{mixItem, frameLength, silence}
 use native.Mathlib.Numerals.{add-one}
 use Rattle.log_items.proofs.items.put_silence.Statement.{statement}
 use Rattle.log_items.proofs.items.put_silence.Tie as tie
 
-silent-bytes : (l x : List ℕ) (at : ℕ) → x ≡ sets (set l at 70) (at + 1) (replicate (at + 41 - (at + 1)) 0) → x ≡ sets l at (mixItem silence)
+silent-bytes : (l x : List ℕ) (at : ℕ) → x ≡ sets (set l at 70) (at + 1) (replicate (at + frameLength - (at + 1)) 0) → x ≡ sets l at (mixItem silence)
 unfolding mixItem ofBits toBits
 silent-bytes l x at e = e ∙ ap₂ (λ (i n : ℕ). sets (set l at 70) i (replicate n 0)) (add-one at) (forty at)
   where
-    forty : (at : ℕ) → at + 41 - (at + 1) ≡ 40
+    forty : (at : ℕ) → at + frameLength - (at + 1) ≡ 40
     forty at = omega arith
 
 returns : tie.Need-returns

@@ -5,14 +5,14 @@ use Rattle.clocks.proofs.Totals.{frames-le}
 use Rattle.log_scan.proofs.answer.counted.Statement.{statement}
 use Rattle.log_scan.proofs.answer.counted.Tie as tie
 
-frame-bytes : tie.Need-mul-t3
+frame-bytes : tie.Need-mul-t4
 frame-bytes c =
     let start = c .before in
     let h = start .pre .halves in
     let l = frames-le (start .args .sums .halves) in
     rw (c .frames-of .ensures) (omega arith)
 
-all-bytes : tie.Need-add-t4
+all-bytes : tie.Need-add-t5
 all-bytes c =
     let counted = c .before in
     let start = counted .before in

@@ -5,11 +5,18 @@ use Rattle.channel_pulse.specs.Pulse.{clocked}
 use Rattle.channel_pulse.proofs.pulse_channel.PulseChannel.clock.Statement.{statement}
 use Rattle.channel_pulse.proofs.pulse_channel.PulseChannel.clock.Tie as tie
 
-pub clock-spec : {M : Type 1} → statement M
+ticks : tie.Need-returns
 unfolding pick clocked
+ticks c = rw (c .tick .ensures, c .before .if1 .taken)
+
+stands : tie.Need-returns-2
+unfolding pick clocked
+stands c = rw (c .if1 .left)
+
+pub clock-spec : {M : Type 1} → statement M
 clock-spec =
     tie.close
     (tie.spec
     (λ c κs. search needs)
-    (λ c. rw (c .tick .ensures, c .before .if1 .taken))
-    (λ c. rw (c .if1 .left)))
+    ticks
+    stands)

@@ -6,13 +6,20 @@ use Rattle.channel_pulse.specs.Pulse.{ticked}
 use Rattle.channel_pulse.proofs.pulse_channel.PulseChannel.tick.Statement.{statement}
 use Rattle.channel_pulse.proofs.pulse_channel.PulseChannel.tick.Tie as tie
 
-pub tick-spec : {M : Type 1} → statement M
+reloads : tie.Need-returns
 unfolding pick ticked
+reloads c = rw (c .reload .ensures, eq-eqb _ _ (c .before .before .if1 .taken))
+
+loses-1 : tie.Need-returns-2
+unfolding pick ticked
+loses-1 c = rw (ne-eqb _ _ (c .before .if1 .left))
+
+pub tick-spec : {M : Type 1} → statement M
 tick-spec =
     tie.close
     (tie.spec
     (λ c. search needs)
+    (λ c κs. search needs)
     (λ c. search needs)
-    (λ c. search needs)
-    (λ c. rw (eq-eqb _ _ (c .before .before .if1 .taken)))
-    (λ c. rw (ne-eqb _ _ (c .before .if1 .left))))
+    reloads
+    loses-1)

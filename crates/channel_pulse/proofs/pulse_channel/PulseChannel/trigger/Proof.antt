@@ -10,15 +10,16 @@ trigger-requires c κs = search needs
 sweep-trigger-requires : tie.Need-sweep-trigger-requires
 sweep-trigger-requires c κs = search needs
 
-sub-t7 : tie.Need-sub-t7
-sub-t7 c = search needs
+reload-requires : tie.Need-reload-requires
+reload-requires c κs = search needs
 
 returns : tie.Need-returns
 unfolding triggered
 returns c =
+    let reload = c .before .before .reload in
     let sweep = c .before .before .before .before .sweep-trigger in
     let envelope = c .before .before .before .before .before .before .trigger in
-    rw (sweep .ensures, envelope .ensures)
+    rw (reload .ensures, sweep .ensures, envelope .ensures)
 
 pub trigger-spec : {M : Type 1} → statement M
 trigger-spec =
@@ -26,5 +27,5 @@ trigger-spec =
     (tie.spec
     trigger-requires
     sweep-trigger-requires
-    sub-t7
+    reload-requires
     returns)

@@ -5,11 +5,14 @@ use Rattle.channel_wave.proofs.Ranges.{wave-halved-held}
 use Rattle.channel_wave.proofs.wave_channel.WaveChannel.clock.Statement.{statement}
 use Rattle.channel_wave.proofs.wave_channel.WaveChannel.clock.Tie as tie
 
-pub clock-spec : {M : Type 1} → statement M
+both-halves : tie.Need-returns
 unfolding clocked
+both-halves c = rw (c .clock-timer2 .ensures, c .before .clock-timer .ensures)
+
+pub clock-spec : {M : Type 1} → statement M
 clock-spec =
     tie.close
     (tie.spec
     (λ c κs. search needs)
     (λ c κs. rw (c .clock-timer .ensures) (wave-halved-held _ (c .before .pre)))
-    (λ c. rw (c .clock-timer2 .ensures, c .before .clock-timer .ensures)))
+    both-halves)
