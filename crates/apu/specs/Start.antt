@@ -2,6 +2,7 @@
 use mathlib.Core.Bool.{Bool, true, false}
 use lib.IntN.{pos}
 use lib.Ieee.{binary64, ofBits}
+use Rattle.ground.specs.Pick.{pick}
 use Rattle.channel_parts.specs.Envelope as envelope
 use Rattle.channel_parts.specs.Length as length
 use Rattle.channel_pulse.specs.Pulse.{dutyWritten}
@@ -62,3 +63,7 @@ skipped dmg =
       «clocks_counter» = a .«clocks_counter»;
       «is_dmg» = a .«is_dmg»;
     }
+
+-- either constructor, by whether it skips the boot program, on DMG or not
+abbrev pub constructed : Bool → Bool → Apu
+constructed skip dmg = pick skip (skipped dmg) (fresh dmg)

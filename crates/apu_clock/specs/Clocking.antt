@@ -2,12 +2,13 @@
 use Prim.Native.Nat.{ℕ, _+_, _-_}
 use mathlib.Core.Bool.{Bool, not, _&&_}
 use lib.Dec.{ltb}
-use lib.Ieee.{Float}
+use mathlib.Core.List.{List, [], _∷_}
+use lib.Ieee.{Float, binary32, ofBits}
 use Rattle.ground.specs.Pick.{pick}
 use Rattle.clocks.specs.Counter.{everyAt, tickBy}
 use Rattle.clocks.specs.Calls.{halfClocksOf}
 use Rattle.frame.specs.Mixing.{mixed}
-use Rattle.frame.specs.Buffers.{Buffers, roomFor, framed}
+use Rattle.frame.specs.Buffers.{Buffers, five, roomFor, framed}
 use Rattle.channel_groups.specs.PulseGroups as pulse
 use Rattle.channel_groups.specs.WaveGroups as wave
 use Rattle.channel_groups.specs.NoiseGroups as noise
@@ -77,3 +78,10 @@ makesFrame a double = not (ltb (a .«clocks_counter» + halfClocksOf double) 2) 
 -- refusal 2: "this clock call makes a frame and, in any of the five lent f32 buffers, fewer than two numbers lie from the given place on"
 abbrev pub noRoom : Apu → Bool → ℕ → Buffers → Bool
 noRoom a double place b = makesFrame a double && not (roomFor place b)
+
+-- five buffers with room for one frame, at place 0: what examples and players of a log lend to a call
+abbrev two : List Float
+two = ofBits binary32 0 ∷ ofBits binary32 0 ∷ []
+
+abbrev pub lent : Buffers
+lent = five two two two two two

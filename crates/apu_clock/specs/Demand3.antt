@@ -3,15 +3,14 @@ use mathlib.Core.Path.{_≡_}
 use mathlib.Core.Bool.{Bool}
 use mathlib.Core.List.{List}
 use Prim.Native.Nat.{_+_, _*_, _^_}
-use Rattle.ground.specs.Pick.{pick}
 use Rattle.clocks.specs.Calls.{other, refused, K, Conserved}
 use Rattle.clocks.specs.Rows.{steps, kinds}
-use Rattle.apu.specs.Start.{fresh, skipped}
+use Rattle.apu.specs.Start.{constructed}
 use Rattle.apu_clock.specs.Uses.{Use, State, step, kind, see}
 
 -- "a fresh unit of either constructor", `new_skip_boot_rom` or `new`, DMG or not; it has made no frame
 abbrev pub startOf : Bool → Bool → State
-startOf skip dmg = record { apu = pick skip (skipped dmg) (fresh dmg); frames = 0 }
+startOf skip dmg = record { apu = constructed skip dmg; frames = 0 }
 
 pub record Demand3 : Type 0 where
   -- "where 11025 times K is 2^66 + 1511"

@@ -20,7 +20,8 @@ use Rattle.apu_clock.specs.Clocking.{After, pushed, passed, frameOf, clockOf}
 use Rattle.apu_clock.specs.Clocking as clocking
 use Rattle.apu_clock.specs.declared.clock.Answer.the-variants.{Nothing}
 use Rattle.apu_run.specs.Working.{passing, working, workingBytes, Take}
-use Rattle.apu_run.specs.Calls.{lent, answerBytes, callBytes, callUnit}
+use Rattle.apu_clock.specs.Clocking.{lent}
+use Rattle.apu_run.specs.Calls.{answerBytes, callBytes, callUnit}
 use Rattle.apu_run.proofs.Rows.{callOn}
 
 -- ---- the bit stored: nothing with power off, and a fall moves the sequencer

@@ -9,7 +9,8 @@ use Rattle.apu.specs.declared.Apu.{Apu}
 use Rattle.apu_clock.proofs.Ranges.{clock-held}
 use Rattle.apu_clock.proofs.Floats.{clock-floats}
 use Rattle.apu_run.specs.Working.{Take}
-use Rattle.apu_run.specs.Calls.{lent, callBytes, callUnit, dividerAt, clocksBytes, afterClocks}
+use Rattle.apu_clock.specs.Clocking.{lent}
+use Rattle.apu_run.specs.Calls.{callBytes, callUnit, dividerAt, clocksBytes, afterClocks}
 use Rattle.apu_run.specs.declared.calls.Divider.{Divider}
 
 -- ---- a call keeps the ranges

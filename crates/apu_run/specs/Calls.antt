@@ -2,13 +2,12 @@
 -- "The access log". Assumes nothing.
 use Prim.Native.Nat.{ℕ, zero, suc, _+_, _/_, _%_}
 use mathlib.Core.Bool.{Bool, false}
-use mathlib.Core.List.{List, [], _∷_, _++_}
+use mathlib.Core.List.{List, [], _++_}
 use lib.ListN.{length}
-use lib.Ieee.{Float, binary32, ofBits}
 use Rattle.ground.specs.Pick.{pick}
-use Rattle.frame.specs.Buffers.{Buffers, five}
+use Rattle.frame.specs.Buffers.{Buffers}
 use Rattle.log_items.specs.Items.{frameItem}
-use Rattle.apu_clock.specs.Clocking.{After, clockOf}
+use Rattle.apu_clock.specs.Clocking.{After, clockOf, lent}
 use Rattle.apu.specs.declared.Apu.{Apu}
 use Rattle.apu_clock.specs.declared.clock.Answer.{Answer}
 use Rattle.apu_clock.specs.declared.clock.Answer.the-variants.{Nothing, Frame, NoRoom}
@@ -17,14 +16,7 @@ use Rattle.apu_run.specs.declared.calls.Divider.{Divider}
 
 -- ---- a clock call
 
--- what is lent to it: two numbers in each buffer, room for the one frame that a call can make
-abbrev pub two : List Float
-two = ofBits binary32 0 ∷ ofBits binary32 0 ∷ []
-
-abbrev pub lent : Buffers
-lent = five two two two two two
-
--- the call itself
+-- the call itself, with room for the one frame that it can make
 abbrev pub called : Bool → ℕ → Apu → After
 called double divider a = clockOf a double divider 0 lent
 

@@ -13,7 +13,7 @@ use Rattle.channel_noise.specs.Noise.{Held, steppedRegister, reloadOf, c
 use Rattle.channel_noise.specs.Phase.{NoisePhaseHeld, noisePhaseOf, withNoisePhase, noisePhaseClocked}
 use Rattle.channel_noise.specs.declared.phase.NoisePhase.{NoisePhase}
 use Rattle.channel_noise.specs.declared.noise_channel.NoiseChannel.{NoiseChannel}
-use Rattle.channel_noise.proofs.Ranges.{register-le, noise-moved-held}
+use Rattle.channel_noise.proofs.Ranges.{register-le, noise-register-timer-held}
 pub use Rattle.channel_noise.proofs.Ranges.{reload-most}
 
 -- ---- the channel and what moves in it
@@ -27,7 +27,7 @@ pub noise-phase-of-held : (c : NoiseChannel) → Held c → NoisePhaseHeld (nois
 noise-phase-of-held c a = record { register = a .register; timer = a .timer }
 
 pub with-noise-phase-held : (c : NoiseChannel) (h : NoisePhase) → Held c → NoisePhaseHeld h → Held (withNoisePhase c h)
-with-noise-phase-held c h a b = noise-moved-held c a _ _ (b .register) (b .timer)
+with-noise-phase-held c h a b = noise-register-timer-held c a _ _ (b .register) (b .timer)
 
 pub noise-phase-held : (narrow : Bool) (reload : ℕ) (h : NoisePhase) → reload ≤ 16383 → NoisePhaseHeld h → NoisePhaseHeld (noisePhaseClocked narrow reload h)
 unfolding noisePhaseClocked

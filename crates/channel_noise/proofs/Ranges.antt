@@ -40,15 +40,15 @@ module _ (n : NoiseChannel) (h : noise.Held n) where
   pub noise-dac-held : (dac : Bool) → noise.Held (noise.dacSet n dac)
   noise-dac-held dac = record { shift = h .shift; code = h .code; timer = h .timer; register = h .register; envelope = h .envelope }
 
-  pub noise-moved-held : (register timer : ℕ) → register ≤ 0x7FFF → timer ≤ 16383 → noise.Held (with.withRegisterAndTimer n register timer)
-  noise-moved-held register timer a b = record { shift = h .shift; code = h .code; timer = b; register = a; envelope = h .envelope }
+  pub noise-register-timer-held : (register timer : ℕ) → register ≤ 0x7FFF → timer ≤ 16383 → noise.Held (with.withRegisterAndTimer n register timer)
+  noise-register-timer-held register timer a b = record { shift = h .shift; code = h .code; timer = b; register = a; envelope = h .envelope }
 
   pub noise-clocked-held : noise.Held (noise.clocked n)
   unfolding noise.clocked
   noise-clocked-held =
       both-ways noise.Held _
-      (noise-moved-held _ _ (register-le (n .«feedback_shift_register») (n .«step_mode_7_bits») (h .register)) (reload-most n))
-      (noise-moved-held _ _ (h .register) (omega arith))
+      (noise-register-timer-held _ _ (register-le (n .«feedback_shift_register») (n .«step_mode_7_bits») (h .register)) (reload-most n))
+      (noise-register-timer-held _ _ (h .register) (omega arith))
 
   pub noise-triggered-held : noise.Held (noise.triggered n)
   unfolding noise.triggered

@@ -69,8 +69,8 @@ module _ (w : WaveChannel) (h : wave.Held w) where
   pub wave-dac-held : (dac : Bool) → wave.Held (wave.dacSet w dac)
   wave-dac-held dac = record { volume = h .volume; shift = h .shift; frequency = h .frequency; buffer = h .buffer; position = h .position; timer = h .timer }
 
-  wave-moved-held : (position : ℕ) (just : Bool) (timer : ℕ) → position ≤ 31 → timer ≤ 2050 → wave.Held (with.withPositionAndTimer w position just timer)
-  wave-moved-held position just timer a b =
+  wave-position-timer-held : (position : ℕ) (just : Bool) (timer : ℕ) → position ≤ 31 → timer ≤ 2050 → wave.Held (with.withPositionAndTimer w position just timer)
+  wave-position-timer-held position just timer a b =
       record { volume = h .volume; shift = h .shift; frequency = h .frequency; buffer = h .buffer; position = a; timer = b }
 
   stored-length : (i : BufferIndex) (v : ℕ) → length (wave.storedIn (w .buffer) i v) ≡ 16
@@ -81,9 +81,9 @@ module _ (w : WaveChannel) (h : wave.Held w) where
   unfolding wave.stored
   wave-stored-held dmg offset v = wave-buffer-held _ (stored-length (wave.indexOf w dmg offset) v)
 
-  pub wave-halved-held : wave.Held (wave.timerClocked w)
+  pub wave-timer-held : wave.Held (wave.timerClocked w)
   unfolding wave.timerClocked
-  wave-halved-held = both-ways wave.Held _ (wave-moved-held _ _ _ (omega arith) (omega arith)) (wave-moved-held _ _ _ (h .position) (omega arith))
+  wave-timer-held = both-ways wave.Held _ (wave-position-timer-held _ _ _ (omega arith) (omega arith)) (wave-position-timer-held _ _ _ (h .position) (omega arith))
 
   trigger-length : (dmg : Bool) → length (wave.bufferAtTrigger w dmg) ≡ 16
   unfolding wave.bufferAtTrigger wave.rewritten wave.fourFrom
@@ -106,7 +106,7 @@ module _ (w : WaveChannel) (h : wave.Held w) where
 
 pub wave-clocked-held : (w : WaveChannel) → wave.Held w → wave.Held (wave.clocked w)
 unfolding wave.clocked
-wave-clocked-held w h = wave-halved-held _ (wave-halved-held w h)
+wave-clocked-held w h = wave-timer-held _ (wave-timer-held w h)
 
 nibble-le : (w : WaveChannel) → wave.nibbleOf w ≤ 15
 unfolding wave.nibbleOf

@@ -7,6 +7,7 @@ use lib.Ieee.{ofBits, toBits, ofInt, add, sub, mul, div}
 use Rattle.ground.specs.Pick.{pick}
 use Rattle.ground.specs.Num.{zeroAsEight}
 use Rattle.clocks.specs.Calls.{K}
+use Rattle.apu_clock.specs.Clocking.{lent}
 use Rattle.apu_clock.proofs.Demand3.{frames-of-calls}
 use Rattle.frame.specs.Buffers.{roomIn, roomInAll, roomFor}
 use Rattle.frame.specs.Converter as converter
@@ -18,7 +19,7 @@ use Rattle.channel_pulse.specs.Sweep as sweep
 use Rattle.channel_pulse.specs.Pulse as pulse
 use Rattle.channel_wave.specs.Wave as wave
 use Rattle.channel_noise.specs.Noise as noise
-use Rattle.examples.specs.Marked.{Row, AllHold, end, _and_, lent, framesAfter, fourRows, marked}
+use Rattle.examples.specs.Marked.{Row, AllHold, end, _and_, framesAfter, fourRows, marked}
 
 -- frames by demand 3, of each constructor and model
 frames : (skip dmg : Bool) (n : ℕ) → framesAfter skip dmg n ≡ n * 2 ^ 48 / K

@@ -3,10 +3,10 @@ use mathlib.Core.Path.{_≡_}
 use mathlib.Core.Bool.{Bool, true, false}
 use mathlib.Core.List.{List, [], _∷_}
 use Prim.Native.Nat.{ℕ, _+_, _*_}
-use lib.Ieee.{Float, binary32, ofBits, toBits}
+use lib.Ieee.{binary32, toBits}
 use Rattle.clocks.specs.Calls.{times}
 use Rattle.clocks.specs.Rows.{steps}
-use Rattle.frame.specs.Buffers.{Buffers, five}
+use Rattle.apu_clock.specs.Clocking.{lent}
 use Rattle.apu_clock.specs.Uses.{clock, step}
 use Rattle.apu_clock.specs.Demand3.{startOf}
 use Rattle.frame.specs.Converter as converter
@@ -39,12 +39,6 @@ pub data AllHold : List Row → Type 0 where
 -- ---- what the examples speak of
 
 -- 1 to 3: the frames that a unit of either constructor has made after n clock calls at normal speed, a working clock each, with room for a frame in each buffer
-abbrev two : List Float
-two = ofBits binary32 0 ∷ ofBits binary32 0 ∷ []
-
-abbrev pub lent : Buffers
-lent = five two two two two two
-
 abbrev pub framesAfter : Bool → Bool → ℕ → ℕ
 framesAfter skip dmg n = steps step (times n (clock false 0 0 lent)) (startOf skip dmg) .frames
 

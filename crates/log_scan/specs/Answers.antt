@@ -69,16 +69,20 @@ hasWrong s = isPlace (wrongIn (recordsFrom s 2))
 abbrev pub wrongPlace : List ℕ → ℕ
 wrongPlace s = placeIn (wrongIn (recordsFrom s 2))
 
+-- "3 to 6 are tried in that order": 3 to 5, or what comes after them
+abbrev pub firstRefused : List ℕ → ℕ → ℕ
+firstRefused s last = pick (tooLong s) 3 (pick (badStart s) 4 (pick (hasWrong s) 5 last))
+
 -- the refusal of a log where there is room enough, and its number returned; without one, the bytes that it makes
 unfoldable pub refusedFor : List ℕ → ℕ
-refusedFor s = pick (tooLong s) 3 (pick (badStart s) 4 (pick (hasWrong s) 5 0))
+refusedFor s = firstRefused s 0
 
 unfoldable pub returnedFor : ℕ → List ℕ → ℕ
 returnedFor written s = pick (tooLong s) 0 (pick (badStart s) 0 (pick (hasWrong s) (wrongPlace s) written))
 
--- "3 to 6 are tried in that order"; 6: "output shorter than needed", which returns the bytes needed
+-- in an output of `room` bytes; 6: "output shorter than needed", which returns the bytes needed
 unfoldable pub refusedWithin : ℕ → ℕ → List ℕ → ℕ
-refusedWithin room needed s = pick (tooLong s) 3 (pick (badStart s) 4 (pick (hasWrong s) 5 (pick (ltb room needed) 6 0)))
+refusedWithin room needed s = firstRefused s (pick (ltb room needed) 6 0)
 
 -- ---- what a log is answered
 

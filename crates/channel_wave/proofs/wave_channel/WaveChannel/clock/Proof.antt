@@ -1,7 +1,7 @@
 -- The first half keeps the ranges that the second asks. Assumes nothing.
 use borrow.Author.Needs.{needs}
 use Rattle.channel_wave.specs.Wave.{clocked}
-use Rattle.channel_wave.proofs.Ranges.{wave-halved-held}
+use Rattle.channel_wave.proofs.Ranges.{wave-timer-held}
 use Rattle.channel_wave.proofs.wave_channel.WaveChannel.clock.Statement.{statement}
 use Rattle.channel_wave.proofs.wave_channel.WaveChannel.clock.Tie as tie
 
@@ -14,5 +14,5 @@ clock-spec =
     tie.close
     (tie.spec
     (λ c κs. search needs)
-    (λ c κs. rw (c .clock-timer .ensures) (wave-halved-held _ (c .before .pre)))
+    (λ c κs. rw (c .clock-timer .ensures) (wave-timer-held _ (c .before .pre)))
     both-halves)
