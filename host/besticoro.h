@@ -1,0 +1,106 @@
+/* The player of Game Boy sound logs, for a host in C (C99 or later) or C++ (C++98 or later).
+ *
+ * Each entry has two names. The plain one (play_access_log) is the proved function itself. The one with besticoro_ before it
+ * looks at what it is lent, puts the default float environment around the call, and gives the host's own back after it.
+ * Call the second, unless you can promise what the first asks.
+ *
+ * THE ANSWER is one number: refusal * 2^48 + number. BESTICORO_REFUSAL and BESTICORO_NUMBER take it apart.
+ *
+ *   refusal  when, exactly                                            number
+ *   0        the log was played                                       bytes written to the front of out
+ *   3        the log is longer than 65,536 bytes                      0
+ *   4        it is under 2 bytes, its byte 0 (the version) is not 1,  0
+ *            or its byte 1 (the start) is above 3
+ *   5        a record is wrong or cut short                           place in the log of the first such record's first length byte
+ *   6        out is shorter than the bytes needed                     the bytes needed
+ *   0xFFFF   the memory lent cannot be lent (besticoro_ names only)   0
+ *
+ * 0xFFFF is tried first, then 3 to 6 in that order. With any refusal nothing that was lent is touched.
+ *
+ * WHAT IS LENT is memory as a pointer and a length, for the time of the call. log is read and never written; out and counts are
+ * written, and nothing else is. Bytes of out past those written stay as they were. No memory is allocated and nothing is kept, so
+ * any number of threads may play at once. Every call ends.
+ *
+ * The bytes that an output needs: play into no output (out_length 0) and take the number of refusal 6; the answer 0 means none.
+ * That costs by the log's records, not by its sound. No log needs more than 264,491,123 bytes or so: 41 for each frame.
+ *
+ * THE OUTPUT is a row of items, in the order of the log's records:
+ *   0x46  a frame: ten f32 bit patterns, high byte first, right and left of pulse 1, pulse 2, wave, noise, and their sum
+ *   0x52  a read: the byte read
+ *   0x50  both PCM reads: two bytes
+ *
+ * WHAT A CALLER OF THE PLAIN NAMES PROMISES. The besticoro_ names see to all of this, or refuse:
+ *   - Floats: IEEE arithmetic, rounded to nearest, subnormals kept, no exception trapped. That is how a C program starts; not so
+ *     where a program was linked with -ffast-math, or a thread set another mode. In another mode the samples are other samples.
+ *   - No pointer is null, not even one with length 0; counts is aligned as uint64_t.
+ *   - Lengths are those of memory that is there: at most PTRDIFF_MAX bytes, none past the end of the address space.
+ *   - No memory that is written overlaps other memory that is lent.
+ */
+#ifndef BESTICORO_H
+#define BESTICORO_H
+
+#include <stddef.h>
+#include <stdint.h>
+
+#ifdef __cplusplus
+extern "C" {
+#endif
+
+enum besticoro_refusal {
+    BESTICORO_DONE = 0,
+    BESTICORO_TOO_LONG = 3,
+    BESTICORO_BAD_START = 4,
+    BESTICORO_WRONG_RECORD = 5,
+    BESTICORO_NO_ROOM = 6,
+    BESTICORO_BAD_MEMORY = 0xFFFF
+};
+
+#define BESTICORO_REFUSAL(answer) ((int)((uint64_t)(answer) >> 48))
+#define BESTICORO_NUMBER(answer) ((uint64_t)(answer) & (((uint64_t)1 << 48) - 1))
+
+/* The longest log that is not refused with 3, and the bytes of a frame in the output. */
+#define BESTICORO_LONGEST_LOG 65536
+#define BESTICORO_FRAME_BYTES 41
+
+/* Plays a log into the front of out. Refusals 3 to 6. */
+uint64_t play_access_log(const uint8_t *log, size_t log_length, uint8_t *out, size_t out_length);
+
+/* The same, and counts[0] becomes the number of frames made, counts[1] of clock calls, counts[2] of records. counts_length is in
+ * numbers, not bytes. Fewer than 3 are all left alone; of more than 3 the rest is. With a refusal all are. */
+uint64_t play_access_log_counted(const uint8_t *log, size_t log_length, uint8_t *out, size_t out_length, uint64_t *counts, size_t counts_length);
+
+/* The guarded twins need nothing of their caller but that lent memory is the caller's own. They give 0xFFFF * 2^48, and do nothing
+ * else, for
+ *   - a null pointer with a length; with length 0 any pointer will do, null too, and such a part overlaps nothing
+ *   - a length of more than PTRDIFF_MAX bytes, or memory that would end past the address space
+ *   - counts, with a length, not aligned to 8 bytes
+ *   - out overlapping log or counts, or counts overlapping log, by a byte or more; all of the length lent counts
+ * The host's float environment is the same before and after: rounding, flush-to-zero, denormals-are-zero, trap masks, flags. */
+uint64_t besticoro_play_access_log(const uint8_t *log, size_t log_length, uint8_t *out, size_t out_length);
+uint64_t besticoro_play_access_log_counted(const uint8_t *log, size_t log_length, uint8_t *out, size_t out_length, uint64_t *counts, size_t counts_length);
+
+/* A channel's volume envelope, which the host lends. Its numbers may be any; both flags are 0 or 1. */
+struct besticoro_envelope {
+    uint8_t starting_volume;
+    uint8_t current_volume;
+    uint8_t sweep_increase; /* a flag */
+    uint8_t period;
+    uint8_t envelope_can_run; /* a flag */
+    uint8_t counter;
+};
+
+/* The trigger of its channel: volume and counter are set again, and it runs. No floats, no refusals; the pointer is not null. */
+void envelope_trigger(struct besticoro_envelope *e);
+
+/* A clock of the sequencer: the counter goes down, and where it runs out a running envelope steps its volume. */
+void envelope_clock(struct besticoro_envelope *e);
+
+/* Their guarded twins answer 0, or 0xFFFF * 2^48 for a null pointer or a flag that is neither 0 nor 1, and touch nothing then. */
+uint64_t besticoro_envelope_trigger(struct besticoro_envelope *e);
+uint64_t besticoro_envelope_clock(struct besticoro_envelope *e);
+
+#ifdef __cplusplus
+}
+#endif
+
+#endif
