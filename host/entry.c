@@ -1,13 +1,13 @@
-// Calls the C entries on the logs of host/make-answers, the first family of crates/replay/stdin, and compares with what stands there: refusal and number
+// Calls the C entries, by both names, on the logs of host/make-answers, the first family of crates/replay/stdin, and compares with what stands there: refusal and number
 // returned, and for a log that is played its frames, clock calls, records and bytes; no byte past those written, and no count with a refusal, may be touched.
 // Returns 1 where anything differs.
-#include <stdint.h>
+#include "besticoro.h"
 #include <stdio.h>
 #include <stdlib.h>
 #include <string.h>
 
-uint64_t play_access_log(const uint8_t *log, size_t log_length, uint8_t *out, size_t out_length);
-uint64_t play_access_log_counted(const uint8_t *log, size_t log_length, uint8_t *out, size_t out_length, uint64_t *counts, size_t counts_length);
+typedef uint64_t plain(const uint8_t *, size_t, uint8_t *, size_t);
+typedef uint64_t counting(const uint8_t *, size_t, uint8_t *, size_t, uint64_t *, size_t);
 
 enum { FILL = 0xEE, MOST = 65536, HEAD = 24 };
 
@@ -38,26 +38,26 @@ static int same_output(const struct head *h, const uint8_t *want, const uint8_t 
 }
 
 // Both entries on one log; what it must write follows it.
-static int same(const struct head *h, const uint8_t *log, uint8_t *out) {
+static int same(plain *play, counting *play_counted, const struct head *h, const uint8_t *log, uint8_t *out) {
     uint64_t counts[4], answer = (uint64_t)h->refusal << 48 | h->number;
     size_t counted = h->refusal ? 0 : 3;
     memset(out, FILL, MOST);
-    if (play_access_log(log, h->length, out, h->room) != answer || !same_output(h, log + h->length, out)) return 0;
+    if (play(log, h->length, out, h->room) != answer || !same_output(h, log + h->length, out)) return 0;
     memset(out, FILL, MOST);
     memset(counts, FILL, sizeof counts);
-    return play_access_log_counted(log, h->length, out, h->room, counts, 3) == answer && same_output(h, log + h->length, out)
+    return play_counted(log, h->length, out, h->room, counts, 3) == answer && same_output(h, log + h->length, out)
         && memcmp(counts, h->counts, counted * sizeof *counts) == 0 && all_filled(counts + counted, counts + 4);
 }
 
 // Too few counts are left as they are; a log longer than 65,536 bytes is refusal 3.
-static int edges(uint8_t *out) {
+static int edges(plain *play, counting *play_counted, uint8_t *out) {
     static uint8_t long_log[MOST + 1] = {1, 1};
     static const uint8_t no_records[2] = {1, 1};
     uint64_t counts[2];
     memset(out, FILL, MOST);
     memset(counts, FILL, sizeof counts);
-    return play_access_log_counted(no_records, 2, out, 0, counts, 2) == 0 && all_filled(counts, counts + 2)
-        && play_access_log(long_log, MOST + 1, out, MOST) == (uint64_t)3 << 48 && play_access_log(long_log, MOST, out, MOST) == ((uint64_t)5 << 48) + 2
+    return play_counted(no_records, 2, out, 0, counts, 2) == 0 && all_filled(counts, counts + 2)
+        && play(long_log, MOST + 1, out, MOST) == (uint64_t)3 << 48 && play(long_log, MOST, out, MOST) == ((uint64_t)5 << 48) + 2
         && all_filled(out, out + MOST);
 }
 
@@ -72,11 +72,11 @@ int main(void) {
         if (n - at < h.length || n - at - h.length < h.written || MOST < h.room) return 1;
         if (h.kind != 0) {
             played++;
-            if (!same(&h, cases + at, out)) fprintf(stderr, "case %zu differs\n", played), differ++;
+            if (!same(play_access_log, play_access_log_counted, &h, cases + at, out) || !same(besticoro_play_access_log, besticoro_play_access_log_counted, &h, cases + at, out)) fprintf(stderr, "case %zu differs\n", played), differ++;
         }
         at += h.length + h.written;
     }
-    int right = edges(out);
+    int right = edges(play_access_log, play_access_log_counted, out) && edges(besticoro_play_access_log, besticoro_play_access_log_counted, out);
     printf("%zu answers, %zu differ; edges %s\n", played, differ, right ? "as they should be" : "WRONG");
     return !(right && played > 0 && differ == 0);
 }

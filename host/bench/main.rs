@@ -2,9 +2,6 @@
 #[path = "../differential/log.rs"]
 #[allow(dead_code)]
 mod log;
-#[path = "../differential/player.rs"]
-#[allow(dead_code)]
-mod player;
 
 use log::Record;
 use oracle::{apu::Apu, GameBoyConfig};
@@ -162,9 +159,9 @@ fn measure(family: &Family, rounds: usize, out: &mut [u8]) -> f64 {
         let frames = original(&family.records);
         theirs.push(began.elapsed().as_secs_f64());
         let began = Instant::now();
-        let played = player::play(&log, out).expect("a right log with room");
+        let played = besticoro::render(&log, out).expect("a right log with room");
         ours.push(began.elapsed().as_secs_f64());
-        assert_eq!(played.frames, frames as u64, "{}: the two made different numbers of frames", family.name);
+        assert_eq!(played.frames_made(), frames as u64, "{}: the two made different numbers of frames", family.name);
     }
     let mut ratios: Vec<f64> = theirs.iter().zip(&ours).map(|(theirs, ours)| theirs / ours).collect();
     let (slow, fast, ratio) = (median(&mut theirs), median(&mut ours), median(&mut ratios));
@@ -186,7 +183,7 @@ fn largest() {
     let scan = |log: &[u8]| {
         let mut times: Vec<f64> = (0..9).map(|_| {
             let began = Instant::now();
-            player::play(log, &mut []).expect_err("an output without room");
+            besticoro::render(log, &mut []).expect_err("an output without room");
             began.elapsed().as_secs_f64()
         }).collect();
         median(&mut times) * 1e6
@@ -195,13 +192,13 @@ fn largest() {
     let mut out = vec![1u8; 270 << 20];
     let before = peak();
     let began = Instant::now();
-    let played = player::play(&log(16384), &mut out).expect("a right log with room");
+    let played = besticoro::render(&log(16384), &mut out).expect("a right log with room");
     let took = began.elapsed().as_secs_f64();
     println!(
         "the largest log: {} records, {} calls, {} frames: scanned in {most:.0} us (as many records of one call: {least:.0} us), played in {took:.2} s, peak memory {} kB more than before",
-        played.records,
-        played.clocks,
-        played.frames,
+        played.records(),
+        played.clock_calls(),
+        played.frames_made(),
         peak() - before
     );
 }

@@ -1,7 +1,7 @@
 //! A log played by both, and what differs.
 use crate::log::{self, Record, Refused};
 use crate::original;
-use crate::player::{self, Items, Played, Refusal};
+use besticoro::{items, Refusal};
 
 const FILL: u8 = 0xA5;
 // Bytes past the output that must stay: room for three frames too many.
@@ -29,21 +29,33 @@ impl Sums {
     }
 }
 
+// The table's numbers. What the crate does not know is nobody's answer.
 fn number(refusal: Refusal) -> Refused {
     match refusal {
         Refusal::TooLong => Refused(3, 0),
-        Refusal::BadStart => Refused(4, 0),
-        Refusal::WrongRecord { place } => Refused(5, place),
-        Refusal::TooShort { needed } => Refused(6, needed),
-        Refusal::Unknown { refusal, number } => Refused(refusal, number),
+        Refusal::BadStart(_) => Refused(4, 0),
+        Refusal::WrongRecord { record, .. } => Refused(5, record as u64),
+        Refusal::NoRoom { needed } => Refused(6, needed as u64),
+        Refusal::BadMemory => Refused(0xFFFF, 0),
+        Refusal::Unknown { .. } => Refused(u64::MAX, u64::MAX),
     }
+}
+
+/// What playing a log came to, in numbers.
+#[derive(Clone, Copy, Debug, PartialEq, Eq)]
+struct Played {
+    written: usize,
+    frames: u64,
+    clocks: u64,
+    records: u64,
 }
 
 /// Plays into an output of so many bytes: the answer, the bytes written, and whether every other byte stayed, within the output and past it.
 fn played(log: &[u8], room: usize, space: &mut Vec<u8>) -> (Result<Played, Refused>, bool) {
     space.clear();
     space.resize(room + GUARD, FILL);
-    let answer = player::play(log, &mut space[..room]).map_err(number);
+    let rendered = besticoro::render(log, &mut space[..room]);
+    let answer = rendered.map(|r| Played { written: r.bytes().len(), frames: r.frames_made(), clocks: r.clock_calls(), records: r.records() }).map_err(number);
     let written = answer.map_or(0, |done| done.written);
     (answer, written <= room && space[written.min(room)..].iter().all(|&byte| byte == FILL))
 }
@@ -74,7 +86,7 @@ pub fn compare(log: &[u8], edges: bool, space: &mut Vec<u8>) -> Result<Sums, Str
         expect("answer", ours, Ok(theirs))?;
         expect("untouched past the output", stayed, true)?;
         if space[..needed] != answer.bytes[..] {
-            let pairs = Items(&space[..needed]).zip(Items(&answer.bytes));
+            let pairs = items(&space[..needed]).zip(items(&answer.bytes));
             return Err(match pairs.clone().enumerate().find(|(_, (ours, theirs))| ours != theirs) {
                 Some((at, (ours, theirs))) => format!("item {at}:\n  {ours} here\n  {theirs} by the original"),
                 None => format!("only {} items here", pairs.count()),

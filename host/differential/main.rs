@@ -3,7 +3,6 @@ mod compare;
 mod generate;
 mod log;
 mod original;
-mod player;
 mod record;
 
 use compare::Sums;
@@ -162,7 +161,7 @@ fn one_log(log: Vec<u8>) -> i32 {
         }
         Ok(_) => {
             match original::play(&log) {
-                Ok(answer) => player::Items(&answer.bytes).for_each(|item| println!("{item}")),
+                Ok(answer) => besticoro::items(&answer.bytes).for_each(|item| println!("{item}")),
                 Err(refused) => println!("refusal {} with {}", refused.0, refused.1),
             }
             println!("both the same");
@@ -198,6 +197,11 @@ fn options() -> Options {
             "--record" => {
                 let (file, folder) = (value(), value());
                 record::record(file.as_ref(), folder.as_ref(), options.seed).unwrap_or_else(|error| usage(&format!("{file}: {error}")));
+                std::process::exit(0)
+            }
+            "--residue" => {
+                let folder = value();
+                record::residue(folder.as_ref(), options.seed, 2).unwrap_or_else(|error| usage(&format!("{folder}: {error}")));
                 std::process::exit(0)
             }
             "--sample" => {

@@ -88,6 +88,18 @@ pub fn sample(folder: &Path, seed: u64, many: u64) -> std::io::Result<()> {
     Ok(())
 }
 
+/// The first whole logs of faint residue, so many, and what the original makes of them: N.log and N.bytes.
+pub fn residue(folder: &Path, seed: u64, many: u64) -> std::io::Result<()> {
+    let number = generate::FAMILIES.iter().position(|(family, _)| *family == "faint residue").expect("a family of that name");
+    for index in 0..many {
+        let log = generate::make(number, seed, index);
+        let answer = original::play(&log).expect("no log of this family is refused");
+        std::fs::write(folder.join(format!("{index}.log")), &log)?;
+        std::fs::write(folder.join(format!("{index}.bytes")), answer.bytes)?;
+    }
+    Ok(())
+}
+
 /// A log without the records past so many clocks or 1,500 frames.
 fn shorten(log: Vec<u8>, clocks: u64) -> Vec<u8> {
     let Ok((start, mut records)) = crate::log::parse(&log) else { return log };

@@ -1,0 +1,53 @@
+//! thread FOLDER: a thread that sets its float mode itself and plays through the crate besticoro, beside threads in other modes. Ends with 1 where bytes are not the original's or a mode does not stand.
+use std::arch::asm;
+
+#[cfg(target_arch = "x86_64")]
+const MODES: [(&str, u64); 5] = [("the default", 0x1F80), ("flush-to-zero", 0x9F80), ("both flushed", 0x9FC0), ("rounding up, flushed", 0xDF80), ("traps unmasked, flags set", 0x003F)];
+#[cfg(target_arch = "aarch64")]
+const MODES: [(&str, u64); 4] = [("the default", 0), ("flush-to-zero", 1 << 24), ("rounding up, flushed", 1 << 24 | 1 << 22), ("rounding to zero", 3 << 22)];
+
+fn mode() -> u64 {
+    let mut now = 0u64;
+    // SAFETY: reads a register, on x86-64 into this function's own variable.
+    #[cfg(target_arch = "x86_64")]
+    unsafe { asm!("stmxcsr [{}]", in(reg) &mut now) };
+    #[cfg(target_arch = "aarch64")]
+    unsafe { asm!("mrs {}, fpcr", out(reg) now) };
+    now
+}
+
+fn set_mode(mode: u64) {
+    // SAFETY: this thread does no float arithmetic of its own until the default is set again.
+    #[cfg(target_arch = "x86_64")]
+    unsafe { asm!("ldmxcsr [{}]", in(reg) &mode) };
+    #[cfg(target_arch = "aarch64")]
+    unsafe { asm!("msr fpcr, {}", in(reg) mode) };
+}
+
+// Plays in a mode: whether the bytes are the original's, and whether the mode stood.
+fn play(log: &[u8], original: &[u8], wanted: u64) -> (bool, bool) {
+    let mut out = vec![0; original.len()];
+    set_mode(wanted);
+    let rendering = besticoro::render(log, &mut out);
+    let after = mode();
+    set_mode(MODES[0].1);
+    (rendering.is_ok_and(|rendering| rendering.bytes() == original), after == wanted)
+}
+
+fn main() {
+    let folder = std::env::args().nth(1).expect("thread FOLDER");
+    let read = |name: &str| std::fs::read(format!("{folder}/{name}")).expect("a residue log and its bytes");
+    let (log, original) = (read("0.log"), read("0.bytes"));
+    let mut wrong = 0;
+    std::thread::scope(|scope| {
+        let (log, original) = (&log, &original);
+        let threads = MODES.map(|(name, mode)| (name, scope.spawn(move || (0..20).map(|_| play(log, original, mode)).fold((true, true), |a, b| (a.0 & b.0, a.1 & b.1)))));
+        for (name, thread) in threads {
+            let (same, stood) = thread.join().expect("no thread panicked");
+            wrong += u32::from(!same) + u32::from(!stood);
+            println!("a Rust thread, {name}: the bytes are {}, the mode {}", if same { "the original's" } else { "OTHERS" }, if stood { "stands" } else { "DOES NOT STAND" });
+        }
+    });
+    println!("{} Rust threads at once, each in a mode of its own: {wrong} wrong", MODES.len());
+    std::process::exit(i32::from(wrong > 0));
+}
