@@ -75,6 +75,9 @@ pub fn compare(log: &[u8], edges: bool, space: &mut Vec<u8>) -> Result<Sums, Str
             let (ours, stayed) = played(log, 64, space);
             expect("answer", ours, Err(refused))?;
             expect("untouched", stayed, true)?;
+            if let Err(Refusal::WrongRecord { record, place, .. }) = besticoro::bytes_needed(log) {
+                expect("place of the offending byte", place, log::offending(log, record))?;
+            }
             return Ok(Sums { logs: 1, refused: 1, ..Sums::default() });
         }
         Ok(answer) => answer,

@@ -72,3 +72,15 @@ pub fn parse(log: &[u8]) -> Result<(u8, Vec<Record>), Refused> {
     }
     Ok((start, records))
 }
+
+/// The place of a wrong record's first offending byte, as request 2026-06 of document 02 has it; the crate besticoro says it in its words.
+pub fn offending(log: &[u8], record: usize) -> usize {
+    let [high, low, ref rest @ ..] = log[record..] else { return record };
+    let Some(body) = rest.get(..usize::from(u16::from_be_bytes([high, low]))) else { return log.len() };
+    match *body {
+        [1, _, _, _] | [2, _, _] | [3, 2..=255, _, _, _] => record + 3,
+        [3, _, _, _, _] => record + 5,
+        [] | [1..=4, ..] => record,
+        _ => record + 2,
+    }
+}
