@@ -11,7 +11,8 @@
  *   3        the log is longer than 65,536 bytes                      0
  *   4        it is under 2 bytes, its byte 0 (the version) is not 1,  0
  *            or its byte 1 (the start) is above 3
- *   5        a record is wrong or cut short                           place in the log of the first such record's first length byte
+ *   5        a record is wrong or cut short                           place in the log of the first such record's
+ *                                                                     first length byte
  *   6        out is shorter than the bytes needed                     the bytes needed
  *   0xFFFF   the memory lent cannot be lent (besticoro_ names only)   0
  *
@@ -22,7 +23,7 @@
  * any number of threads may play at once. Every call ends.
  *
  * The bytes that an output needs: play into no output (out_length 0) and take the number of refusal 6; the answer 0 means none.
- * That costs by the log's records, not by its sound. No log needs more than 264,491,123 bytes or so: 41 for each frame.
+ * That costs by the log's records, not by its clock calls. No log needs more than 264,491,123 bytes.
  *
  * THE OUTPUT is a row of items, in the order of the log's records:
  *   0x46  a frame: ten f32 bit patterns, high byte first, right and left of pulse 1, pulse 2, wave, noise, and their sum
