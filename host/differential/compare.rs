@@ -76,7 +76,7 @@ pub fn compare(log: &[u8], edges: bool, space: &mut Vec<u8>) -> Result<Sums, Str
             expect("answer", ours, Err(refused))?;
             expect("untouched", stayed, true)?;
             if let Err(Refusal::WrongRecord { record, place, .. }) = besticoro::bytes_needed(log) {
-                expect("place of the offending byte", place, log::offending(log, record))?;
+                expect("place of the offending byte, for the original by log.rs", place, log::offending(log, record))?;
             }
             return Ok(Sums { logs: 1, refused: 1, ..Sums::default() });
         }
