@@ -20,11 +20,12 @@ use Rattle.channel_groups.proofs.Ranges as group
 use Rattle.clocks.specs.Position.{PositionHeld}
 use Rattle.apu.specs.Held.{Held}
 use Rattle.apu.specs.With.{withPulse1, withPulse2, withWave, withNoise, withGroups}
-use Rattle.apu.specs.With.{withControl, withSelection, withPower, withClocks, withBit, withPosition}
+use Rattle.apu.specs.With.{withSwitches, withTime, withClocks, withBit, withPosition}
 use Rattle.apu.specs.Start as start
 use Rattle.apu.specs.Registers.{soundWritten, gatedWritten, ramWritten, powerWritten, writtenAt, writeOf}
 use Rattle.apu.specs.Registers.{zeroed, silenced, poweredOff, restarted, refilled, poweredOn}
 use Rattle.apu.specs.declared.Apu.{Apu}
+use Rattle.apu.proofs.Offsets.{of-each}
 use Rattle.apu.specs.declared.registers.Written.{Written}
 use lib.Ieee.{Float}
 
@@ -61,51 +62,51 @@ skipped-held dmg =
       clocks = omega arith;
     }
 
--- ---- one thing written anew
+-- ---- a row of fields written anew
 module _ (a : Apu) (h : Held a) where
-  pub pulse1-held : (g : PulseGroup) → pulse.Held g → Held (withPulse1 a g)
-  pulse1-held g k = record { pulse1 = k; pulse2 = h .pulse2; wave = h .wave; noise = h .noise; position = h .position; clocks = h .clocks }
-
-  pulse2-held : (g : PulseGroup) → pulse.Held g → Held (withPulse2 a g)
-  pulse2-held g k = record { pulse1 = h .pulse1; pulse2 = k; wave = h .wave; noise = h .noise; position = h .position; clocks = h .clocks }
-
-  wave-held : (g : WaveGroup) → wave.Held g → Held (withWave a g)
-  wave-held g k = record { pulse1 = h .pulse1; pulse2 = h .pulse2; wave = k; noise = h .noise; position = h .position; clocks = h .clocks }
-
-  noise-held : (g : NoiseGroup) → noise.Held g → Held (withNoise a g)
-  noise-held g k = record { pulse1 = h .pulse1; pulse2 = h .pulse2; wave = h .wave; noise = k; position = h .position; clocks = h .clocks }
-
   pub groups-held : (p q : PulseGroup) (w : WaveGroup) (n : NoiseGroup) → pulse.Held p → pulse.Held q → wave.Held w → noise.Held n → Held (withGroups a p q w n)
   groups-held p q w n hp hq hw hn = record { pulse1 = hp; pulse2 = hq; wave = hw; noise = hn; position = h .position; clocks = h .clocks }
 
-  control-held : (v : ℕ) → Held (withControl a v)
-  control-held v = record { pulse1 = h .pulse1; pulse2 = h .pulse2; wave = h .wave; noise = h .noise; position = h .position; clocks = h .clocks }
+  switches-held : (control selection : ℕ) (on : Bool) → Held (withSwitches a control selection on)
+  switches-held control selection on =
+      record { pulse1 = h .pulse1; pulse2 = h .pulse2; wave = h .wave; noise = h .noise; position = h .position; clocks = h .clocks }
 
-  selection-held : (v : ℕ) → Held (withSelection a v)
-  selection-held v = record { pulse1 = h .pulse1; pulse2 = h .pulse2; wave = h .wave; noise = h .noise; position = h .position; clocks = h .clocks }
+  time-held : (counter : Float) (bit : Bool) (z : ℤ) (half : ℕ) → PositionHeld z → half ≤ 1 → Held (withTime a counter bit z half)
+  time-held counter bit z half k l = record { pulse1 = h .pulse1; pulse2 = h .pulse2; wave = h .wave; noise = h .noise; position = k; clocks = l }
 
-  power-held : (on : Bool) → Held (withPower a on)
-  power-held on = record { pulse1 = h .pulse1; pulse2 = h .pulse2; wave = h .wave; noise = h .noise; position = h .position; clocks = h .clocks }
+  -- ---- and one field of a row
+  pub pulse1-held : (g : PulseGroup) → pulse.Held g → Held (withPulse1 a g)
+  pulse1-held g k = groups-held g _ _ _ k (h .pulse2) (h .wave) (h .noise)
+
+  pulse2-held : (g : PulseGroup) → pulse.Held g → Held (withPulse2 a g)
+  pulse2-held g k = groups-held _ g _ _ (h .pulse1) k (h .wave) (h .noise)
+
+  wave-held : (g : WaveGroup) → wave.Held g → Held (withWave a g)
+  wave-held g k = groups-held _ _ g _ (h .pulse1) (h .pulse2) k (h .noise)
+
+  noise-held : (g : NoiseGroup) → noise.Held g → Held (withNoise a g)
+  noise-held g k = groups-held _ _ _ g (h .pulse1) (h .pulse2) (h .wave) k
 
   pub clocks-held : (counter : Float) (half : ℕ) → half ≤ 1 → Held (withClocks a counter half)
-  clocks-held counter half k = record { pulse1 = h .pulse1; pulse2 = h .pulse2; wave = h .wave; noise = h .noise; position = h .position; clocks = k }
+  clocks-held counter half k = time-held counter _ _ half (h .position) k
 
   pub bit-held : (bit : Bool) → Held (withBit a bit)
-  bit-held bit = record { pulse1 = h .pulse1; pulse2 = h .pulse2; wave = h .wave; noise = h .noise; position = h .position; clocks = h .clocks }
+  bit-held bit = time-held _ bit _ _ (h .position) (h .clocks)
 
   pub position-held : (z : ℤ) → PositionHeld z → Held (withPosition a z)
-  position-held z k = record { pulse1 = h .pulse1; pulse2 = h .pulse2; wave = h .wave; noise = h .noise; position = k; clocks = h .clocks }
+  position-held z k = time-held _ _ z _ k (h .clocks)
 
 -- ---- writes and power
 pub sound-held : (a : Apu) (at v : ℕ) → v ≤ 255 → Held a → Held (soundWritten a at v)
 unfolding soundWritten
 sound-held a at v k h =
-    both-ways Held _ (pulse1-held a h _ (group.pulse-sweep-group-held (a .pulse1) (h .pulse1) v))
-    (both-ways Held _ (pulse1-held a h _ (group.pulse-written-held (a .pulse1) at (a .power) _ v k (h .pulse1)))
-    (both-ways Held _ (pulse2-held a h _ (group.pulse-written-held (a .pulse2) (at - 5) (a .power) _ v k (h .pulse2)))
-    (both-ways Held _ (wave-held a h _ (group.wave-written-held (a .wave) (at - 10) (a .«is_dmg») _ v k (h .wave)))
-    (both-ways Held _ (noise-held a h _ (group.noise-written-group-held (a .noise) (at - 15) _ v k (h .noise)))
-    (both-ways Held _ (control-held a h v) (selection-held a h v))))))
+    of-each at _ Held
+    (pulse1-held a h _ (group.pulse-sweep-group-held (a .pulse1) (h .pulse1) v))
+    (pulse1-held a h _ (group.pulse-written-held (a .pulse1) at (a .power) _ v k (h .pulse1)))
+    (pulse2-held a h _ (group.pulse-written-held (a .pulse2) (at - 5) (a .power) _ v k (h .pulse2)))
+    (wave-held a h _ (group.wave-written-held (a .wave) (at - 10) (a .«is_dmg») _ v k (h .wave)))
+    (noise-held a h _ (group.noise-written-group-held (a .noise) (at - 15) _ v k (h .noise)))
+    (both-ways Held _ (switches-held a h v _ _) (switches-held a h _ v _))
 
 gated-held : (a : Apu) (at v : ℕ) → v ≤ 255 → Held a → Held (gatedWritten a at v)
 unfolding gatedWritten
@@ -123,18 +124,18 @@ zeroed-held a (suc n) h = sound-held (zeroed a n) n 0 (lit≤ tt) (zeroed-held a
 silenced-held : (a : Apu) → Held a → Held (silenced a)
 unfolding silenced
 silenced-held a h =
-    power-held _
+    switches-held _
     (groups-held a h _ _ _ _
-    (group.pulse-silenced-held (a .pulse1) (h .pulse1))
-    (group.pulse-silenced-held (a .pulse2) (h .pulse2))
-    (group.wave-silenced-held (a .wave) (h .wave))
-    (group.noise-silenced-held (a .noise) (h .noise)))
-    false
+    (group.silenced-held group.pulse-kept (a .pulse1) (h .pulse1))
+    (group.silenced-held group.pulse-kept (a .pulse2) (h .pulse2))
+    (group.silenced-held group.wave-kept (a .wave) (h .wave))
+    (group.silenced-held group.noise-kept (a .noise) (h .noise)))
+    _ _ false
 
 restarted-held : (a : Apu) → Held a → Held (restarted a)
 unfolding restarted
 restarted-held a h =
-    power-held _
+    switches-held _
     (position-held _
     (groups-held a h _ _ _ _
     (group.pulse-rewound-held (a .pulse1) (h .pulse1))
@@ -142,16 +143,16 @@ restarted-held a h =
     (group.wave-rewound-held (a .wave) (h .wave))
     (h .noise))
     _ (both-ways PositionHeld (a .«divider_sequencer_clock_bit») refl (omega arith)))
-    true
+    _ _ true
 
 refilled-held : (a : Apu) → Held a → Held (refilled a)
 unfolding refilled
 refilled-held a h =
     groups-held a h _ _ _ _
-    (group.pulse-refilled-held (a .pulse1) (h .pulse1))
-    (group.pulse-refilled-held (a .pulse2) (h .pulse2))
-    (group.wave-refilled-held (a .wave) (h .wave))
-    (group.noise-refilled-held (a .noise) (h .noise))
+    (group.refilled-held group.pulse-kept (a .pulse1) (h .pulse1))
+    (group.refilled-held group.pulse-kept (a .pulse2) (h .pulse2))
+    (group.refilled-held group.wave-kept (a .wave) (h .wave))
+    (group.refilled-held group.noise-kept (a .noise) (h .noise))
 
 power-written-held : (a : Apu) (v : ℕ) → Held a → Held (powerWritten a v)
 unfolding powerWritten poweredOn poweredOff

@@ -1,18 +1,20 @@
 -- What no write and no power change touches: the half-clocks, the sample counter and the four converters. Assumes nothing.
 use mathlib.Core.Path.{_≡_, refl, _∙_}
+use mathlib.Core.Bool.{Bool}
 use Prim.Native.Nat.{ℕ, zero, suc, _-_}
 use Rattle.ground.proofs.Cases.{both-ways}
+use Rattle.channel_groups.specs.Groups as any
 use Rattle.channel_groups.specs.PulseGroups as pulse
 use Rattle.channel_groups.specs.WaveGroups as wave
-use Rattle.channel_groups.specs.NoiseGroups as noise
 use Rattle.channel_groups.specs.declared.pulse_group.PulseGroup.{PulseGroup}
 use Rattle.channel_groups.specs.declared.wave_group.WaveGroup.{WaveGroup}
 use Rattle.channel_groups.specs.declared.noise_group.NoiseGroup.{NoiseGroup}
 use Rattle.channel_groups.proofs.Untouched.{pulse-untouched, wave-untouched, noise-untouched}
 use Rattle.apu.specs.Registers.{soundWritten, gatedWritten, ramWritten, powerWritten, writtenAt, writeOf}
 use Rattle.apu.specs.Registers.{zeroed, silenced, poweredOff, restarted, refilled, poweredOn}
-use Rattle.apu.specs.With.{withPulse1, withPulse2, withWave, withNoise, withControl, withSelection}
+use Rattle.apu.specs.With.{withGroups, withSwitches}
 use Rattle.apu.specs.declared.Apu.{Apu}
+use Rattle.apu.proofs.Offsets.{of-each}
 use Rattle.apu.specs.declared.registers.Written.{Written}
 
 pub record Untouched (a b : Apu) : Type 0 where
@@ -36,35 +38,26 @@ then p q = record {
   noise = q .noise ∙ p .noise;
 }
 
--- ---- one group written anew, with its converter as it was
+-- ---- a row of fields written anew, with the converters as they were
 module _ (a : Apu) where
-  first : (g : PulseGroup) → g .converter ≡ a .pulse1 .converter → Untouched a (withPulse1 a g)
-  first g e = record { half = refl; counter = refl; pulse1 = e; pulse2 = refl; wave = refl; noise = refl }
+  regrouped : (p q : PulseGroup) (w : WaveGroup) (n : NoiseGroup)
+      → p .converter ≡ a .pulse1 .converter → q .converter ≡ a .pulse2 .converter → w .converter ≡ a .wave .converter → n .converter ≡ a .noise .converter
+      → Untouched a (withGroups a p q w n)
+  regrouped p q w n first second third fourth = record { half = refl; counter = refl; pulse1 = first; pulse2 = second; wave = third; noise = fourth }
 
-  second : (g : PulseGroup) → g .converter ≡ a .pulse2 .converter → Untouched a (withPulse2 a g)
-  second g e = record { half = refl; counter = refl; pulse1 = refl; pulse2 = e; wave = refl; noise = refl }
-
-  third : (g : WaveGroup) → g .converter ≡ a .wave .converter → Untouched a (withWave a g)
-  third g e = record { half = refl; counter = refl; pulse1 = refl; pulse2 = refl; wave = e; noise = refl }
-
-  fourth : (g : NoiseGroup) → g .converter ≡ a .noise .converter → Untouched a (withNoise a g)
-  fourth g e = record { half = refl; counter = refl; pulse1 = refl; pulse2 = refl; wave = refl; noise = e }
-
-  selected : (v : ℕ) → Untouched a (withSelection a v)
-  selected v = record { half = refl; counter = refl; pulse1 = refl; pulse2 = refl; wave = refl; noise = refl }
-
-  controlled : (v : ℕ) → Untouched a (withControl a v)
-  controlled v = record { half = refl; counter = refl; pulse1 = refl; pulse2 = refl; wave = refl; noise = refl }
+  switched : (control selection : ℕ) (on : Bool) → Untouched a (withSwitches a control selection on)
+  switched control selection on = record { half = refl; counter = refl; pulse1 = refl; pulse2 = refl; wave = refl; noise = refl }
 
 sound : (a : Apu) (at v : ℕ) → Untouched a (soundWritten a at v)
 unfolding soundWritten pulse.sweepWritten
 sound a at v =
-    both-ways (Untouched a) _ (first a _ refl)
-    (both-ways (Untouched a) _ (first a _ (pulse-untouched (a .pulse1) at (a .power) _ v))
-    (both-ways (Untouched a) _ (second a _ (pulse-untouched (a .pulse2) (at - 5) (a .power) _ v))
-    (both-ways (Untouched a) _ (third a _ (wave-untouched (a .wave) (at - 10) (a .«is_dmg») _ v))
-    (both-ways (Untouched a) _ (fourth a _ (noise-untouched (a .noise) (at - 15) _ v))
-    (both-ways (Untouched a) _ (controlled a v) (selected a v))))))
+    of-each at _ (Untouched a)
+    (regrouped a _ _ _ _ refl refl refl refl)
+    (regrouped a _ _ _ _ (pulse-untouched (a .pulse1) at (a .power) _ v) refl refl refl)
+    (regrouped a _ _ _ _ refl (pulse-untouched (a .pulse2) (at - 5) (a .power) _ v) refl refl)
+    (regrouped a _ _ _ _ refl refl (wave-untouched (a .wave) (at - 10) (a .«is_dmg») _ v) refl)
+    (regrouped a _ _ _ _ refl refl refl (noise-untouched (a .noise) (at - 15) _ v))
+    (both-ways (Untouched a) _ (switched a v _ _) (switched a _ v _))
 
 zeroes : (a : Apu) (n : ℕ) → Untouched a (zeroed a n)
 unfolding zeroed
@@ -72,16 +65,16 @@ zeroes a zero = same a
 zeroes a (suc n) = then (zeroes a n) (sound (zeroed a n) n 0)
 
 silent : (a : Apu) → Untouched a (silenced a)
-unfolding silenced pulse.silenced wave.silenced noise.silenced
-silent a = record { half = refl; counter = refl; pulse1 = refl; pulse2 = refl; wave = refl; noise = refl }
+unfolding silenced any.silenced
+silent a = then (regrouped a _ _ _ _ refl refl refl refl) (switched _ _ _ _)
 
 started : (a : Apu) → Untouched a (restarted a)
 unfolding restarted pulse.rewound wave.rewound
 started a = record { half = refl; counter = refl; pulse1 = refl; pulse2 = refl; wave = refl; noise = refl }
 
 full : (a : Apu) → Untouched a (refilled a)
-unfolding refilled pulse.refilled wave.refilled noise.refilled
-full a = record { half = refl; counter = refl; pulse1 = refl; pulse2 = refl; wave = refl; noise = refl }
+unfolding refilled any.refilled
+full a = regrouped a _ _ _ _ refl refl refl refl
 
 gated : (a : Apu) (at v : ℕ) → Untouched a (gatedWritten a at v)
 unfolding gatedWritten
@@ -96,7 +89,7 @@ powered a v =
 
 stored : (a : Apu) (at v : ℕ) → Untouched a (ramWritten a at v)
 unfolding ramWritten wave.ramWritten
-stored a at v = record { half = refl; counter = refl; pulse1 = refl; pulse2 = refl; wave = refl; noise = refl }
+stored a at v = regrouped a _ _ _ _ refl refl refl refl
 
 -- a write, accepted or refused
 pub write-untouched : (a : Apu) (addr v : ℕ) → Untouched a (writeOf a addr v .apu)

@@ -22,6 +22,27 @@ use Rattle.apu.specs.declared.registers.Written.{Written}
 use Rattle.apu.specs.declared.registers.Write.the-variants.{Done}
 use Rattle.apu.specs.declared.registers.Write.the-variants as write
 
+-- ---- which group an offset is in
+
+-- one value for each group of registers
+pub record PerGroup (A : Type 0) : Type 0 where
+  pub sweep : A  -- FF10
+  pub pulse1 : A  -- FF11..FF14
+  pub pulse2 : A  -- FF15..FF19
+  pub wave : A  -- FF1A..FF1E
+  pub noise : A  -- FF1F..FF23
+  pub rest : A  -- from FF24 on
+
+-- the offset's own
+unfoldable pub byOffset : {A : Type 0} → ℕ → PerGroup A → A
+byOffset at each =
+    pick (eqb at 0) (each .sweep)
+    (pick (ltb at 5) (each .pulse1)
+    (pick (ltb at 10) (each .pulse2)
+    (pick (ltb at 15) (each .wave)
+    (pick (ltb at 20) (each .noise)
+    (each .rest)))))
+
 -- ---- reads
 
 -- FF26 reads with the mask 70: bit 7 the power, bits 3 to 0 noise, wave, pulse 2, pulse 1 on
@@ -36,16 +57,19 @@ statusByte a =
 -- "OR masks on reading, FF10 up": 80 for FF10, the groups' own, none for FF24 and FF25, "FF27..FF2F FF"
 unfoldable pub byteAt : Apu → ℕ → ℕ
 byteAt a at =
-    pick (eqb at 0) (0x80 + sweep.byteOf (a .pulse1 .channel .sweep))
-    (pick (ltb at 5) (pulse.byteOf (a .pulse1) at)
-    (pick (ltb at 10) (pulse.byteOf (a .pulse2) (at - 5))
-    (pick (ltb at 15) (wave.byteOf (a .wave) (at - 10))
-    (pick (ltb at 20) (noise.byteOf (a .noise) (at - 15))
-    (pick (eqb at 20) (a .«channels_control»)
-    (pick (eqb at 21) (a .«channels_selection»)
-    (pick (eqb at 22) (statusByte a)
-    (pick (ltb at 32) 0xFF
-    (waveChannel.byteAt (a .wave .channel) (a .«is_dmg») (at % 16))))))))))
+    byOffset at (record {
+      sweep = 0x80 + sweep.byteOf (a .pulse1 .channel .sweep);
+      pulse1 = pulse.byteOf (a .pulse1) at;
+      pulse2 = pulse.byteOf (a .pulse2) (at - 5);
+      wave = wave.byteOf (a .wave) (at - 10);
+      noise = noise.byteOf (a .noise) (at - 15);
+      rest =
+          pick (eqb at 20) (a .«channels_control»)
+          (pick (eqb at 21) (a .«channels_selection»)
+          (pick (eqb at 22) (statusByte a)
+          (pick (ltb at 32) 0xFF
+          (waveChannel.byteAt (a .wave .channel) (a .«is_dmg») (at % 16)))));
+    })
 
 -- a read of any address; refusal 1 outside FF10..FF3F
 unfoldable pub readOf : Apu → ℕ → Read
@@ -64,13 +88,14 @@ pcm34Of a = noiseChannel.outputOf (a .noise .channel) % 16 * 16 + waveChannel.ou
 unfoldable pub soundWritten : Apu → ℕ → ℕ → Apu
 soundWritten a at value =
     let even = nextEven (a .«sequencer_position») in
-    pick (eqb at 0) (withPulse1 a (pulse.sweepWritten (a .pulse1) value))
-    (pick (ltb at 5) (withPulse1 a (pulse.written (a .pulse1) at (a .power) even value))
-    (pick (ltb at 10) (withPulse2 a (pulse.written (a .pulse2) (at - 5) (a .power) even value))
-    (pick (ltb at 15) (withWave a (wave.written (a .wave) (at - 10) (a .«is_dmg») even value))
-    (pick (ltb at 20) (withNoise a (noise.written (a .noise) (at - 15) even value))
-    (pick (eqb at 20) (withControl a value)
-    (withSelection a value))))))
+    byOffset at (record {
+      sweep = withPulse1 a (pulse.sweepWritten (a .pulse1) value);
+      pulse1 = withPulse1 a (pulse.written (a .pulse1) at (a .power) even value);
+      pulse2 = withPulse2 a (pulse.written (a .pulse2) (at - 5) (a .power) even value);
+      wave = withWave a (wave.written (a .wave) (at - 10) (a .«is_dmg») even value);
+      noise = withNoise a (noise.written (a .noise) (at - 15) even value);
+      rest = pick (eqb at 20) (withControl a value) (withSelection a value);
+    })
 
 -- "FF11, FF16, FF1B, FF20", as offsets from FF10
 abbrev pub isLength : ℕ → Bool

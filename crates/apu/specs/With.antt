@@ -1,4 +1,4 @@
--- The unit with one thing written anew, all else as it was. None of these is a rule. Assumes nothing.
+-- The unit with one thing written anew, all else as it was: its fields in three rows, and each setter by its row's. None of these is a rule. Assumes nothing.
 use Prim.Native.Nat.{ℕ}
 use mathlib.Core.Bool.{Bool}
 use lib.IntN.{ℤ}
@@ -8,79 +8,7 @@ use Rattle.channel_groups.specs.declared.wave_group.WaveGroup.{WaveGroup}
 use Rattle.channel_groups.specs.declared.noise_group.NoiseGroup.{NoiseGroup}
 use Rattle.apu.specs.declared.Apu.{Apu}
 
--- another pulse 1
-abbrev pub withPulse1 : Apu → PulseGroup → Apu
-withPulse1 a g =
-    record {
-      pulse1 = g;
-      pulse2 = a .pulse2;
-      wave = a .wave;
-      noise = a .noise;
-      «channels_control» = a .«channels_control»;
-      «channels_selection» = a .«channels_selection»;
-      power = a .power;
-      «sample_counter» = a .«sample_counter»;
-      «divider_sequencer_clock_bit» = a .«divider_sequencer_clock_bit»;
-      «sequencer_position» = a .«sequencer_position»;
-      «clocks_counter» = a .«clocks_counter»;
-      «is_dmg» = a .«is_dmg»;
-    }
-
--- another pulse 2
-abbrev pub withPulse2 : Apu → PulseGroup → Apu
-withPulse2 a g =
-    record {
-      pulse1 = a .pulse1;
-      pulse2 = g;
-      wave = a .wave;
-      noise = a .noise;
-      «channels_control» = a .«channels_control»;
-      «channels_selection» = a .«channels_selection»;
-      power = a .power;
-      «sample_counter» = a .«sample_counter»;
-      «divider_sequencer_clock_bit» = a .«divider_sequencer_clock_bit»;
-      «sequencer_position» = a .«sequencer_position»;
-      «clocks_counter» = a .«clocks_counter»;
-      «is_dmg» = a .«is_dmg»;
-    }
-
--- another wave
-abbrev pub withWave : Apu → WaveGroup → Apu
-withWave a g =
-    record {
-      pulse1 = a .pulse1;
-      pulse2 = a .pulse2;
-      wave = g;
-      noise = a .noise;
-      «channels_control» = a .«channels_control»;
-      «channels_selection» = a .«channels_selection»;
-      power = a .power;
-      «sample_counter» = a .«sample_counter»;
-      «divider_sequencer_clock_bit» = a .«divider_sequencer_clock_bit»;
-      «sequencer_position» = a .«sequencer_position»;
-      «clocks_counter» = a .«clocks_counter»;
-      «is_dmg» = a .«is_dmg»;
-    }
-
--- another noise
-abbrev pub withNoise : Apu → NoiseGroup → Apu
-withNoise a g =
-    record {
-      pulse1 = a .pulse1;
-      pulse2 = a .pulse2;
-      wave = a .wave;
-      noise = g;
-      «channels_control» = a .«channels_control»;
-      «channels_selection» = a .«channels_selection»;
-      power = a .power;
-      «sample_counter» = a .«sample_counter»;
-      «divider_sequencer_clock_bit» = a .«divider_sequencer_clock_bit»;
-      «sequencer_position» = a .«sequencer_position»;
-      «clocks_counter» = a .«clocks_counter»;
-      «is_dmg» = a .«is_dmg»;
-    }
-
--- other groups, all four
+-- the four groups anew
 abbrev pub withGroups : Apu → PulseGroup → PulseGroup → WaveGroup → NoiseGroup → Apu
 withGroups a p q w n =
     record {
@@ -98,52 +26,16 @@ withGroups a p q w n =
       «is_dmg» = a .«is_dmg»;
     }
 
--- another FF24
-abbrev pub withControl : Apu → ℕ → Apu
-withControl a v =
+-- FF24, FF25 and the power anew
+abbrev pub withSwitches : Apu → ℕ → ℕ → Bool → Apu
+withSwitches a control selection on =
     record {
       pulse1 = a .pulse1;
       pulse2 = a .pulse2;
       wave = a .wave;
       noise = a .noise;
-      «channels_control» = v;
-      «channels_selection» = a .«channels_selection»;
-      power = a .power;
-      «sample_counter» = a .«sample_counter»;
-      «divider_sequencer_clock_bit» = a .«divider_sequencer_clock_bit»;
-      «sequencer_position» = a .«sequencer_position»;
-      «clocks_counter» = a .«clocks_counter»;
-      «is_dmg» = a .«is_dmg»;
-    }
-
--- another FF25
-abbrev pub withSelection : Apu → ℕ → Apu
-withSelection a v =
-    record {
-      pulse1 = a .pulse1;
-      pulse2 = a .pulse2;
-      wave = a .wave;
-      noise = a .noise;
-      «channels_control» = a .«channels_control»;
-      «channels_selection» = v;
-      power = a .power;
-      «sample_counter» = a .«sample_counter»;
-      «divider_sequencer_clock_bit» = a .«divider_sequencer_clock_bit»;
-      «sequencer_position» = a .«sequencer_position»;
-      «clocks_counter» = a .«clocks_counter»;
-      «is_dmg» = a .«is_dmg»;
-    }
-
--- power on or off
-abbrev pub withPower : Apu → Bool → Apu
-withPower a on =
-    record {
-      pulse1 = a .pulse1;
-      pulse2 = a .pulse2;
-      wave = a .wave;
-      noise = a .noise;
-      «channels_control» = a .«channels_control»;
-      «channels_selection» = a .«channels_selection»;
+      «channels_control» = control;
+      «channels_selection» = selection;
       power = on;
       «sample_counter» = a .«sample_counter»;
       «divider_sequencer_clock_bit» = a .«divider_sequencer_clock_bit»;
@@ -152,9 +44,9 @@ withPower a on =
       «is_dmg» = a .«is_dmg»;
     }
 
--- another sample counter and half-clocks
-abbrev pub withClocks : Apu → Float → ℕ → Apu
-withClocks a counter half =
+-- what only clock calls and the power move, anew: sample counter, stored divider bit, sequencer position, half-clocks
+abbrev pub withTime : Apu → Float → Bool → ℤ → ℕ → Apu
+withTime a counter bit position half =
     record {
       pulse1 = a .pulse1;
       pulse2 = a .pulse2;
@@ -164,44 +56,43 @@ withClocks a counter half =
       «channels_selection» = a .«channels_selection»;
       power = a .power;
       «sample_counter» = counter;
-      «divider_sequencer_clock_bit» = a .«divider_sequencer_clock_bit»;
-      «sequencer_position» = a .«sequencer_position»;
+      «divider_sequencer_clock_bit» = bit;
+      «sequencer_position» = position;
       «clocks_counter» = half;
       «is_dmg» = a .«is_dmg»;
     }
 
+abbrev pub withPulse1 : Apu → PulseGroup → Apu
+withPulse1 a g = withGroups a g (a .pulse2) (a .wave) (a .noise)
+
+abbrev pub withPulse2 : Apu → PulseGroup → Apu
+withPulse2 a g = withGroups a (a .pulse1) g (a .wave) (a .noise)
+
+abbrev pub withWave : Apu → WaveGroup → Apu
+withWave a g = withGroups a (a .pulse1) (a .pulse2) g (a .noise)
+
+abbrev pub withNoise : Apu → NoiseGroup → Apu
+withNoise a g = withGroups a (a .pulse1) (a .pulse2) (a .wave) g
+
+-- another FF24
+abbrev pub withControl : Apu → ℕ → Apu
+withControl a v = withSwitches a v (a .«channels_selection») (a .power)
+
+-- another FF25
+abbrev pub withSelection : Apu → ℕ → Apu
+withSelection a v = withSwitches a (a .«channels_control») v (a .power)
+
+abbrev pub withPower : Apu → Bool → Apu
+withPower a on = withSwitches a (a .«channels_control») (a .«channels_selection») on
+
+-- another sample counter and half-clocks
+abbrev pub withClocks : Apu → Float → ℕ → Apu
+withClocks a counter half = withTime a counter (a .«divider_sequencer_clock_bit») (a .«sequencer_position») half
+
 -- another stored divider bit
 abbrev pub withBit : Apu → Bool → Apu
-withBit a bit =
-    record {
-      pulse1 = a .pulse1;
-      pulse2 = a .pulse2;
-      wave = a .wave;
-      noise = a .noise;
-      «channels_control» = a .«channels_control»;
-      «channels_selection» = a .«channels_selection»;
-      power = a .power;
-      «sample_counter» = a .«sample_counter»;
-      «divider_sequencer_clock_bit» = bit;
-      «sequencer_position» = a .«sequencer_position»;
-      «clocks_counter» = a .«clocks_counter»;
-      «is_dmg» = a .«is_dmg»;
-    }
+withBit a bit = withTime a (a .«sample_counter») bit (a .«sequencer_position») (a .«clocks_counter»)
 
 -- another sequencer position
 abbrev pub withPosition : Apu → ℤ → Apu
-withPosition a z =
-    record {
-      pulse1 = a .pulse1;
-      pulse2 = a .pulse2;
-      wave = a .wave;
-      noise = a .noise;
-      «channels_control» = a .«channels_control»;
-      «channels_selection» = a .«channels_selection»;
-      power = a .power;
-      «sample_counter» = a .«sample_counter»;
-      «divider_sequencer_clock_bit» = a .«divider_sequencer_clock_bit»;
-      «sequencer_position» = z;
-      «clocks_counter» = a .«clocks_counter»;
-      «is_dmg» = a .«is_dmg»;
-    }
+withPosition a position = withTime a (a .«sample_counter») (a .«divider_sequencer_clock_bit») position (a .«clocks_counter»)

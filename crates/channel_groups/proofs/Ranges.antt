@@ -5,18 +5,26 @@ use native.Mathlib.Omega.{arith}
 use Rattle.ground.proofs.Cases.{both-ways}
 use Rattle.frame.proofs.Ranges.{stepped-held}
 use Rattle.frame.specs.Mixing.{voiced}
+use Rattle.frame.specs.declared.converter.Converter.{Converter}
 use Rattle.channel_parts.specs.Length as length
+use Rattle.channel_parts.specs.declared.length.Length.{Length}
 use Rattle.channel_parts.proofs.Ranges.{envelope-clocked-held, length-fresh-held, length-written-held, length-reset-held, length-clocked-held}
 use Rattle.channel_parts.proofs.Ranges.{length-enabling-held, length-triggered-held}
 use Rattle.channel_pulse.specs.Pulse as pulseChannel
+use Rattle.channel_pulse.specs.declared.pulse_channel.PulseChannel.{PulseChannel}
 use Rattle.channel_pulse.proofs.Ranges.{pulse-fresh-held, pulse-duty-held, pulse-envelope-held, pulse-frequency-held, pulse-position-held, pulse-on-held}
 use Rattle.channel_pulse.proofs.Ranges.{pulse-sweep-written-held, pulse-clocked-held, pulse-enveloped-held, pulse-sweep-clocked-held, pulse-triggered-held}
 use Rattle.channel_pulse.proofs.Ranges.{pulse-output-le}
+use Rattle.channel_wave.specs.Wave as waveChannel
+use Rattle.channel_wave.specs.declared.wave_channel.WaveChannel.{WaveChannel}
 use Rattle.channel_wave.proofs.Ranges.{wave-fresh-held, wave-volume-held, wave-frequency-held, wave-position-held, wave-on-held, wave-dac-held}
 use Rattle.channel_wave.proofs.Ranges.{wave-stored-held, wave-clocked-held, wave-triggered-held, wave-output-le}
+use Rattle.channel_noise.specs.Noise as noiseChannel
 use Rattle.channel_noise.proofs.Ranges.{noise-fresh-held, noise-written-held, noise-envelope-held, noise-on-held, noise-clocked-held}
 use Rattle.channel_noise.proofs.Ranges.{noise-triggered-held, noise-enveloped-held, noise-output-le}
 use Rattle.channel_groups.specs.Bits.{lowWritten, highWritten}
+use Rattle.channel_groups.specs.Groups as any
+use Rattle.channel_groups.specs.Groups.{Kind}
 use Rattle.channel_groups.specs.PulseGroups as pulse
 use Rattle.channel_groups.specs.WaveGroups as wave
 use Rattle.channel_groups.specs.NoiseGroups as noise
@@ -31,7 +39,49 @@ low-le f v h k = omega arith
 high-le : (f v : ℕ) → highWritten f v ≤ 2047
 high-le f v = omega arith
 
+-- ---- what is alike for every kind of group
+-- a kind whose groups are in their ranges if their length record and channel are, and whose channel stays so when it goes on or off
+pub record Kept {G C : Type 0} (k : Kind G C) (most : ℕ) (Own : C → Type 0) : Type 0 where
+  pub put : (d : Converter) (l : Length) (c : C) → length.Held most l → Own c → any.Held k most Own (k .put d l c)
+  pub switched : (c : C) → Own c → (on : Bool) → Own (k .switched c on)
+
+module _ {G C : Type 0} {k : Kind G C} {most : ℕ} {Own : C → Type 0} (kept : Kept k most Own) (g : G) (h : any.Held k most Own g) where
+  pub length-clock-held : any.Held k most Own (any.lengthClocked k g)
+  unfolding any.lengthClocked
+  length-clock-held = kept .put _ _ _ (length-clocked-held most (k .length g) (h .length)) (kept .switched _ (h .channel) _)
+
+  pub readied-held : (tuned : C → C) → ((c : C) → Own c → Own (tuned c)) → (even : Bool) (v : ℕ) → any.Held k most Own (any.readied k tuned g even v)
+  unfolding any.readied
+  readied-held tuned keeps even v =
+      kept .put _ _ _ (length-enabling-held most (k .length g) _ even (h .length)) (kept .switched _ (keeps _ (h .channel)) _)
+
+  pub triggered-held : (started : C → C) → ((c : C) → Own c → Own (started c)) → (even : Bool) → any.Held k most Own (any.triggered k started g even)
+  unfolding any.triggered
+  triggered-held started keeps even = kept .put _ _ _ (length-triggered-held most (k .length g) (h .length) even) (keeps _ (h .channel))
+
+  pub refilled-held : any.Held k most Own (any.refilled k g)
+  unfolding any.refilled
+  refilled-held = kept .put _ _ _ (length-reset-held most (k .length g) (h .length)) (h .channel)
+
+  pub silenced-held : any.Held k most Own (any.silenced k g)
+  unfolding any.silenced
+  silenced-held = kept .put _ _ _ (h .length) (kept .switched _ (h .channel) false)
+
+controlled-held : {G C : Type 0} {k : Kind G C} {most : ℕ} {Own : C → Type 0} → Kept k most Own
+    → (tuned started : C → C) → ((c : C) → Own c → Own (tuned c)) → ((c : C) → Own c → Own (started c))
+    → (g : G) (even : Bool) (v : ℕ) → any.Held k most Own g → any.Held k most Own (any.controlled k tuned started g even v)
+unfolding any.controlled
+controlled-held kept tuned started tunes starts g even v h =
+    let ready = readied-held kept g h tuned tunes even v in
+    both-ways (any.Held _ _ _) _ (triggered-held kept _ ready started starts even) ready
+
 -- ---- a pulse
+pub pulse-kept : Kept pulse.kind 64 pulseChannel.Held
+pulse-kept = record { put = λ d l c hl hc. record { length = hl; channel = hc }; switched = pulse-on-held }
+
+pub pulse-retuned-held : (v : ℕ) (c : PulseChannel) → pulseChannel.Held c → pulseChannel.Held (pulse.retuned v c)
+pulse-retuned-held v c h = pulse-frequency-held c h _ (high-le (c .frequency) v)
+
 pub pulse-group-fresh-held : pulse.Held pulse.fresh
 pulse-group-fresh-held = record { length = length-fresh-held 64; channel = pulse-fresh-held }
 
@@ -60,22 +110,6 @@ module _ (g : PulseGroup) (h : pulse.Held g) where
         channel = pulse-frequency-held (g .channel) (h .channel) _ (low-le (g .channel .frequency) v (h .channel .frequency) k);
       }
 
-  pub pulse-readied-held : (even : Bool) (v : ℕ) → pulse.Held (pulse.readied g even v)
-  unfolding pulse.readied
-  pulse-readied-held even v =
-      record {
-        length = length-enabling-held 64 (g .length) _ even (h .length);
-        channel = pulse-on-held _ (pulse-frequency-held (g .channel) (h .channel) _ (high-le (g .channel .frequency) v)) _;
-      }
-
-  pub pulse-group-triggered-held : (even : Bool) → pulse.Held (pulse.triggered g even)
-  unfolding pulse.triggered
-  pulse-group-triggered-held even =
-      record {
-        length = length-triggered-held 64 (g .length) (h .length) even;
-        channel = pulse-triggered-held (g .channel) (h .channel);
-      }
-
   pub pulse-group-clocked-held : pulse.Held (pulse.clocked g)
   unfolding pulse.clocked
   pulse-group-clocked-held = record { length = h .length; channel = pulse-clocked-held (g .channel) (h .channel) }
@@ -92,18 +126,6 @@ module _ (g : PulseGroup) (h : pulse.Held g) where
         channel = pulse-envelope-held (g .channel) (h .channel) _ (envelope-clocked-held (g .channel .envelope) (h .channel .envelope));
       }
 
-  pub pulse-length-clock-held : pulse.Held (pulse.lengthClocked g)
-  unfolding pulse.lengthClocked
-  pulse-length-clock-held = record { length = length-clocked-held 64 (g .length) (h .length); channel = pulse-on-held (g .channel) (h .channel) _ }
-
-  pub pulse-refilled-held : pulse.Held (pulse.refilled g)
-  unfolding pulse.refilled
-  pulse-refilled-held = record { length = length-reset-held 64 (g .length) (h .length); channel = h .channel }
-
-  pub pulse-silenced-held : pulse.Held (pulse.silenced g)
-  unfolding pulse.silenced
-  pulse-silenced-held = record { length = h .length; channel = pulse-on-held (g .channel) (h .channel) false }
-
   pub pulse-rewound-held : pulse.Held (pulse.rewound g)
   unfolding pulse.rewound
   pulse-rewound-held = record { length = h .length; channel = pulse-position-held (g .channel) (h .channel) 0 (omega arith) }
@@ -116,19 +138,21 @@ module _ (g : PulseGroup) (h : pulse.Held g) where
   unfolding pulse.sounded voiced
   pulse-sounded-float control selection number k = stepped-held (g .converter) _ _ (pulse-output-le (g .channel) (h .channel)) k
 
-pulse-controlled-held : (g : PulseGroup) (even : Bool) (v : ℕ) → pulse.Held g → pulse.Held (pulse.controlled g even v)
-unfolding pulse.controlled
-pulse-controlled-held g even v h = both-ways pulse.Held _ (pulse-group-triggered-held _ (pulse-readied-held g h even v) even) (pulse-readied-held g h even v)
-
 pub pulse-written-held : (g : PulseGroup) (at : ℕ) (power even : Bool) (v : ℕ) → v ≤ 255 → pulse.Held g → pulse.Held (pulse.written g at power even v)
 unfolding pulse.written
 pulse-written-held g at power even v k h =
     both-ways pulse.Held _ (pulse-length-held g h power v)
     (both-ways pulse.Held _ (pulse-envelope-written-held g h v k)
     (both-ways pulse.Held _ (pulse-tuned-held g h v k)
-    (both-ways pulse.Held _ (pulse-controlled-held g even v h) h)))
+    (both-ways pulse.Held _ (controlled-held pulse-kept _ _ (pulse-retuned-held v) pulse-triggered-held g even v h) h)))
 
 -- ---- the wave
+pub wave-kept : Kept wave.kind 256 waveChannel.Held
+wave-kept = record { put = λ d l c hl hc. record { length = hl; channel = hc }; switched = wave-on-held }
+
+pub wave-retuned-held : (v : ℕ) (c : WaveChannel) → waveChannel.Held c → waveChannel.Held (wave.retuned v c)
+wave-retuned-held v c h = wave-frequency-held c h _ (high-le (c .frequency) v)
+
 pub wave-group-fresh-held : wave.Held wave.fresh
 wave-group-fresh-held = record { length = length-fresh-held 256; channel = wave-fresh-held }
 
@@ -153,22 +177,6 @@ module _ (g : WaveGroup) (h : wave.Held g) where
         channel = wave-frequency-held (g .channel) (h .channel) _ (low-le (g .channel .frequency) v (h .channel .frequency) k);
       }
 
-  pub wave-readied-held : (even : Bool) (v : ℕ) → wave.Held (wave.readied g even v)
-  unfolding wave.readied
-  wave-readied-held even v =
-      record {
-        length = length-enabling-held 256 (g .length) _ even (h .length);
-        channel = wave-on-held _ (wave-frequency-held (g .channel) (h .channel) _ (high-le (g .channel .frequency) v)) _;
-      }
-
-  pub wave-group-triggered-held : (dmg even : Bool) → wave.Held (wave.triggered g dmg even)
-  unfolding wave.triggered
-  wave-group-triggered-held dmg even =
-      record {
-        length = length-triggered-held 256 (g .length) (h .length) even;
-        channel = wave-triggered-held (g .channel) (h .channel) dmg;
-      }
-
   pub wave-ram-held : (dmg : Bool) (offset v : ℕ) → wave.Held (wave.ramWritten g dmg offset v)
   unfolding wave.ramWritten
   wave-ram-held dmg offset v = record { length = h .length; channel = wave-stored-held (g .channel) (h .channel) dmg offset v }
@@ -176,18 +184,6 @@ module _ (g : WaveGroup) (h : wave.Held g) where
   pub wave-group-clocked-held : wave.Held (wave.clocked g)
   unfolding wave.clocked
   wave-group-clocked-held = record { length = h .length; channel = wave-clocked-held (g .channel) (h .channel) }
-
-  pub wave-length-clock-held : wave.Held (wave.lengthClocked g)
-  unfolding wave.lengthClocked
-  wave-length-clock-held = record { length = length-clocked-held 256 (g .length) (h .length); channel = wave-on-held (g .channel) (h .channel) _ }
-
-  pub wave-refilled-held : wave.Held (wave.refilled g)
-  unfolding wave.refilled
-  wave-refilled-held = record { length = length-reset-held 256 (g .length) (h .length); channel = h .channel }
-
-  pub wave-silenced-held : wave.Held (wave.silenced g)
-  unfolding wave.silenced
-  wave-silenced-held = record { length = h .length; channel = wave-on-held (g .channel) (h .channel) false }
 
   pub wave-rewound-held : wave.Held (wave.rewound g)
   unfolding wave.rewound
@@ -201,10 +197,6 @@ module _ (g : WaveGroup) (h : wave.Held g) where
   unfolding wave.sounded voiced
   wave-sounded-float control selection k = stepped-held (g .converter) _ _ (wave-output-le (g .channel)) k
 
-wave-controlled-held : (g : WaveGroup) (dmg even : Bool) (v : ℕ) → wave.Held g → wave.Held (wave.controlled g dmg even v)
-unfolding wave.controlled
-wave-controlled-held g dmg even v h = both-ways wave.Held _ (wave-group-triggered-held _ (wave-readied-held g h even v) dmg even) (wave-readied-held g h even v)
-
 pub wave-written-held : (g : WaveGroup) (at : ℕ) (dmg even : Bool) (v : ℕ) → v ≤ 255 → wave.Held g → wave.Held (wave.written g at dmg even v)
 unfolding wave.written
 wave-written-held g at dmg even v k h =
@@ -212,9 +204,12 @@ wave-written-held g at dmg even v k h =
     (both-ways wave.Held _ (wave-length-held g h v)
     (both-ways wave.Held _ (wave-volume-written-held g h v)
     (both-ways wave.Held _ (wave-tuned-held g h v k)
-    (both-ways wave.Held _ (wave-controlled-held g dmg even v h) h))))
+    (both-ways wave.Held _ (controlled-held wave-kept _ _ (wave-retuned-held v) (λ c k. wave-triggered-held c k dmg) g even v h) h))))
 
 -- ---- the noise
+pub noise-kept : Kept noise.kind 64 noiseChannel.Held
+noise-kept = record { put = λ d l c hl hc. record { length = hl; channel = hc }; switched = noise-on-held }
+
 pub noise-group-fresh-held : noise.Held noise.fresh
 noise-group-fresh-held = record { length = length-fresh-held 64; channel = noise-fresh-held }
 
@@ -231,18 +226,6 @@ module _ (g : NoiseGroup) (h : noise.Held g) where
   unfolding noise.noiseWritten
   noise-set-held v k = record { length = h .length; channel = noise-written-held (g .channel) (h .channel) v k }
 
-  pub noise-readied-held : (even : Bool) (v : ℕ) → noise.Held (noise.readied g even v)
-  unfolding noise.readied
-  noise-readied-held even v = record { length = length-enabling-held 64 (g .length) _ even (h .length); channel = noise-on-held (g .channel) (h .channel) _ }
-
-  pub noise-group-triggered-held : (even : Bool) → noise.Held (noise.triggered g even)
-  unfolding noise.triggered
-  noise-group-triggered-held even =
-      record {
-        length = length-triggered-held 64 (g .length) (h .length) even;
-        channel = noise-triggered-held (g .channel) (h .channel);
-      }
-
   pub noise-group-clocked-held : noise.Held (noise.clocked g)
   unfolding noise.clocked
   noise-group-clocked-held = record { length = h .length; channel = noise-clocked-held (g .channel) (h .channel) }
@@ -255,18 +238,6 @@ module _ (g : NoiseGroup) (h : noise.Held g) where
         channel = noise-envelope-held (g .channel) (h .channel) _ (envelope-clocked-held (g .channel .envelope) (h .channel .envelope));
       }
 
-  pub noise-length-clock-held : noise.Held (noise.lengthClocked g)
-  unfolding noise.lengthClocked
-  noise-length-clock-held = record { length = length-clocked-held 64 (g .length) (h .length); channel = noise-on-held (g .channel) (h .channel) _ }
-
-  pub noise-refilled-held : noise.Held (noise.refilled g)
-  unfolding noise.refilled
-  noise-refilled-held = record { length = length-reset-held 64 (g .length) (h .length); channel = h .channel }
-
-  pub noise-silenced-held : noise.Held (noise.silenced g)
-  unfolding noise.silenced
-  noise-silenced-held = record { length = h .length; channel = noise-on-held (g .channel) (h .channel) false }
-
   pub noise-sounded-held : (control selection : ℕ) → noise.Held (noise.sounded g control selection .group)
   unfolding noise.sounded
   noise-sounded-held control selection = record { length = h .length; channel = h .channel }
@@ -275,14 +246,10 @@ module _ (g : NoiseGroup) (h : noise.Held g) where
   unfolding noise.sounded voiced
   noise-sounded-float control selection k = stepped-held (g .converter) _ _ (noise-output-le (g .channel) (h .channel)) k
 
-noise-controlled-held : (g : NoiseGroup) (even : Bool) (v : ℕ) → noise.Held g → noise.Held (noise.controlled g even v)
-unfolding noise.controlled
-noise-controlled-held g even v h = both-ways noise.Held _ (noise-group-triggered-held _ (noise-readied-held g h even v) even) (noise-readied-held g h even v)
-
 pub noise-written-group-held : (g : NoiseGroup) (at : ℕ) (even : Bool) (v : ℕ) → v ≤ 255 → noise.Held g → noise.Held (noise.written g at even v)
 unfolding noise.written
 noise-written-group-held g at even v k h =
     both-ways noise.Held _ (noise-length-held g h v)
     (both-ways noise.Held _ (noise-envelope-written-held g h v k)
     (both-ways noise.Held _ (noise-set-held g h v k)
-    (both-ways noise.Held _ (noise-controlled-held g even v h) h)))
+    (both-ways noise.Held _ (controlled-held noise-kept _ _ (λ c k. k) noise-triggered-held g even v h) h)))

@@ -1,26 +1,36 @@
--- A pulse with its length record and its converter. Rules from document 01, "Channel rules" and "Registers and power". Assumes nothing.
+-- A pulse with its length record and its converter, as `Groups` has it, and its own registers. Rules from document 01, "Channel rules" and "Registers and power". Assumes nothing.
 use Prim.Native.Nat.{ℕ, _+_, _*_, _/_, _%_}
-use mathlib.Core.Bool.{Bool, false, not, _&&_}
+use mathlib.Core.Bool.{Bool}
 use lib.Dec.{eqb}
 use Rattle.ground.specs.Pick.{pick}
 use Rattle.frame.specs.Converter as converter
 use Rattle.frame.specs.Mixing.{voiced}
 use Rattle.frame.specs.Held as float
-use Rattle.frame.specs.declared.converter.Converter.{Converter}
 use Rattle.channel_parts.specs.Length as length
 use Rattle.channel_parts.specs.Envelope as envelope
-use Rattle.channel_parts.specs.declared.length.Length.{Length}
 use Rattle.channel_pulse.specs.Pulse as channel
 use Rattle.channel_pulse.specs.With.{withOn, withFrequency, withPosition, withEnvelope}
 use Rattle.channel_pulse.specs.declared.pulse_channel.PulseChannel.{PulseChannel}
-use Rattle.channel_groups.specs.Bits.{enableOf, triggerOf, controlByte, lowWritten, highWritten}
+use Rattle.channel_groups.specs.Groups as any
+use Rattle.channel_groups.specs.Groups.{Kind}
+use Rattle.channel_groups.specs.Bits.{controlByte, lowWritten, highWritten}
 use Rattle.channel_groups.specs.declared.pulse_group.PulseGroup.{PulseGroup}
 use Rattle.channel_groups.specs.declared.pulse_group.PulseSounded.{PulseSounded}
 
+abbrev pub kind : Kind PulseGroup PulseChannel
+kind =
+    record {
+      converter = λ g. g .converter;
+      length = λ g. g .length;
+      channel = λ g. g .channel;
+      put = λ d l c. record { converter = d; length = l; channel = c };
+      on = λ c. c .«channel_enabled»;
+      switched = withOn;
+    }
+
 -- "Ranges held from the start"; the maximal length is 64
-pub record Held (g : PulseGroup) : Type 0 where
-  pub length : length.Held 64 (g .length)
-  pub channel : channel.Held (g .channel)
+abbrev pub Held : PulseGroup → Type 0
+Held = any.Held kind 64 channel.Held
 
 -- the range of its capacitor, which no register or clock call asks
 abbrev pub FloatHeld : PulseGroup → Type 0
@@ -30,15 +40,8 @@ FloatHeld g = float.Held (g .converter)
 abbrev pub fresh : PulseGroup
 fresh = record { converter = converter.fresh; length = length.fresh 64; channel = channel.fresh }
 
--- the group with another converter, length record or channel
-abbrev pub withConverter : PulseGroup → Converter → PulseGroup
-withConverter g d = record { converter = d; length = g .length; channel = g .channel }
-
-abbrev pub withLength : PulseGroup → Length → PulseGroup
-withLength g l = record { converter = g .converter; length = l; channel = g .channel }
-
 abbrev pub withChannel : PulseGroup → PulseChannel → PulseGroup
-withChannel g c = record { converter = g .converter; length = g .length; channel = c }
+withChannel = any.withChannel kind
 
 -- a write of FF10
 unfoldable pub sweepWritten : PulseGroup → ℕ → PulseGroup
@@ -61,23 +64,18 @@ envelopeWritten g value = withChannel g (channel.enveloped (g .channel) value)
 unfoldable pub tuned : PulseGroup → ℕ → PulseGroup
 tuned g value = withChannel g (withFrequency (g .channel) (lowWritten (g .channel .frequency) value))
 
--- "An FFx4 write sets the frequency first (not noise), then length enable; newly enabled while the next position .. is even, length is clocked at once"
-unfoldable pub readied : PulseGroup → Bool → ℕ → PulseGroup
-readied g even value =
-    let clocked = length.enabling (g .length) (enableOf value) even in
-    record {
-      converter = g .converter;
-      length = clocked .length;
-      channel = withOn (withFrequency (g .channel) (highWritten (g .channel .frequency) value)) (g .channel .«channel_enabled» && not (clocked .off));
-    }
+-- a write of FFx4, in its steps
+abbrev pub retuned : ℕ → PulseChannel → PulseChannel
+retuned value c = withFrequency c (highWritten (c .frequency) value)
 
--- a trigger: of the length record ("A trigger with counter 0 sets the maximum"), and of the channel
-unfoldable pub triggered : PulseGroup → Bool → PulseGroup
-triggered g even = record { converter = g .converter; length = length.triggered (g .length) even; channel = channel.triggered (g .channel) }
+abbrev pub readied : PulseGroup → Bool → ℕ → PulseGroup
+readied g even value = any.readied kind (retuned value) g even value
 
--- a write of FFx4
-unfoldable pub controlled : PulseGroup → Bool → ℕ → PulseGroup
-controlled g even value = pick (triggerOf value) (triggered (readied g even value) even) (readied g even value)
+abbrev pub triggered : PulseGroup → Bool → PulseGroup
+triggered = any.triggered kind channel.triggered
+
+abbrev pub controlled : PulseGroup → Bool → ℕ → PulseGroup
+controlled g even value = any.controlled kind (retuned value) channel.triggered g even value
 
 -- a write at an offset in the five registers; at 0 nothing, since FF10 is `sweepWritten` and FF15 is unused
 unfoldable pub written : PulseGroup → ℕ → Bool → Bool → ℕ → PulseGroup
@@ -112,22 +110,17 @@ rewound g = withChannel g (withPosition (g .channel) 0)
 unfoldable pub clocked : PulseGroup → PulseGroup
 clocked g = withChannel g (channel.clocked (g .channel))
 
--- "A length clock .. turns the channel off"
-unfoldable pub lengthClocked : PulseGroup → PulseGroup
-lengthClocked g =
-    let after = length.clocked (g .length) in
-    record { converter = g .converter; length = after .length; channel = withOn (g .channel) (g .channel .«channel_enabled» && not (after .off)) }
+abbrev pub lengthClocked : PulseGroup → PulseGroup
+lengthClocked = any.lengthClocked kind
 
--- "off DMG the lengths at maximum"
-unfoldable pub refilled : PulseGroup → PulseGroup
-refilled g = withLength g (length.reset (g .length))
+abbrev pub refilled : PulseGroup → PulseGroup
+refilled = any.refilled kind
 
--- "then all channels go off"
-unfoldable pub silenced : PulseGroup → PulseGroup
-silenced g = withChannel g (withOn (g .channel) false)
+abbrev pub silenced : PulseGroup → PulseGroup
+silenced = any.silenced kind
 
 -- "Every channel's converter steps once per frame": by FF24, FF25 and the channel's number there, 0 or 1
 unfoldable pub sounded : PulseGroup → ℕ → ℕ → ℕ → PulseSounded
 sounded g control selection number =
     let after = voiced (g .converter) (channel.outputOf (g .channel)) (channel.mutedOf (g .channel)) control selection number in
-    record { group = withConverter g (after .converter); sides = after .sides }
+    record { group = any.withConverter kind g (after .converter); sides = after .sides }

@@ -1,4 +1,4 @@
--- A noise channel with one thing written anew, all else as it was. None of these is a rule. Assumes nothing.
+-- A noise channel with one thing written anew, all else as it was: its fields in three rows, and each setter by its row's. None of these is a rule. Assumes nothing.
 use Prim.Native.Nat.{ℕ}
 use mathlib.Core.Bool.{Bool}
 use Rattle.channel_parts.specs.declared.envelope.Envelope.{Envelope}
@@ -32,9 +32,9 @@ withRegisterAndTimer n register timer =
       «dac_enable» = n .«dac_enable»;
     }
 
--- another envelope
-abbrev pub withEnvelope : NoiseChannel → Envelope → NoiseChannel
-withEnvelope n after =
+-- another envelope, the channel on or off, its DAC on or off
+abbrev pub withSwitches : NoiseChannel → Envelope → Bool → Bool → NoiseChannel
+withSwitches n after on dac =
     record {
       «shift_clock_frequency» = n .«shift_clock_frequency»;
       «step_mode_7_bits» = n .«step_mode_7_bits»;
@@ -42,34 +42,15 @@ withEnvelope n after =
       «frequency_timer» = n .«frequency_timer»;
       «feedback_shift_register» = n .«feedback_shift_register»;
       envelope = after;
-      «channel_enabled» = n .«channel_enabled»;
-      «dac_enable» = n .«dac_enable»;
-    }
-
--- on or off
-abbrev pub withOn : NoiseChannel → Bool → NoiseChannel
-withOn n on =
-    record {
-      «shift_clock_frequency» = n .«shift_clock_frequency»;
-      «step_mode_7_bits» = n .«step_mode_7_bits»;
-      «divisor_code» = n .«divisor_code»;
-      «frequency_timer» = n .«frequency_timer»;
-      «feedback_shift_register» = n .«feedback_shift_register»;
-      envelope = n .envelope;
       «channel_enabled» = on;
-      «dac_enable» = n .«dac_enable»;
-    }
-
--- the DAC on or off
-abbrev pub withDac : NoiseChannel → Bool → NoiseChannel
-withDac n dac =
-    record {
-      «shift_clock_frequency» = n .«shift_clock_frequency»;
-      «step_mode_7_bits» = n .«step_mode_7_bits»;
-      «divisor_code» = n .«divisor_code»;
-      «frequency_timer» = n .«frequency_timer»;
-      «feedback_shift_register» = n .«feedback_shift_register»;
-      envelope = n .envelope;
-      «channel_enabled» = n .«channel_enabled»;
       «dac_enable» = dac;
     }
+
+abbrev pub withEnvelope : NoiseChannel → Envelope → NoiseChannel
+withEnvelope n after = withSwitches n after (n .«channel_enabled») (n .«dac_enable»)
+
+abbrev pub withOn : NoiseChannel → Bool → NoiseChannel
+withOn n on = withSwitches n (n .envelope) on (n .«dac_enable»)
+
+abbrev pub withDac : NoiseChannel → Bool → NoiseChannel
+withDac n dac = withSwitches n (n .envelope) (n .«channel_enabled») dac

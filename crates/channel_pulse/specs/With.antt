@@ -1,57 +1,41 @@
--- A sweep and a pulse channel with one thing written anew, all else as it was. None of these is a rule. Assumes nothing.
+-- A sweep and a pulse channel with one thing written anew, all else as it was: the fields in rows, and each setter by its row's. None of these is a rule. Assumes nothing.
 use Prim.Native.Nat.{ℕ}
 use mathlib.Core.Bool.{Bool, true}
 use Rattle.channel_parts.specs.declared.envelope.Envelope.{Envelope}
 use Rattle.channel_pulse.specs.declared.sweep.Sweep.{Sweep}
 use Rattle.channel_pulse.specs.declared.pulse_channel.PulseChannel.{PulseChannel}
 
--- another counter
-abbrev pub withTime : Sweep → ℕ → Sweep
-withTime s time =
+-- another counter, shadow and "calculated" flag of a sweep
+abbrev pub withCount : Sweep → ℕ → ℕ → Bool → Sweep
+withCount s time shadow calculated =
     record {
       period = s .period;
       «current_time» = time;
       «internal_enable» = s .«internal_enable»;
-      «frequency_shadow» = s .«frequency_shadow»;
-      negate = s .negate;
-      «shift_n» = s .«shift_n»;
-      «calculation_happened» = s .«calculation_happened»;
-    }
-
--- another shadow
-abbrev pub withShadow : Sweep → ℕ → Sweep
-withShadow s shadow =
-    record {
-      period = s .period;
-      «current_time» = s .«current_time»;
-      «internal_enable» = s .«internal_enable»;
       «frequency_shadow» = shadow;
       negate = s .negate;
       «shift_n» = s .«shift_n»;
-      «calculation_happened» = s .«calculation_happened»;
+      «calculation_happened» = calculated;
     }
+
+abbrev pub withTime : Sweep → ℕ → Sweep
+withTime s time = withCount s time (s .«frequency_shadow») (s .«calculation_happened»)
+
+abbrev pub withShadow : Sweep → ℕ → Sweep
+withShadow s shadow = withCount s (s .«current_time») shadow (s .«calculation_happened»)
 
 -- the "calculated" flag set
 abbrev pub flagged : Sweep → Sweep
-flagged s =
-    record {
-      period = s .period;
-      «current_time» = s .«current_time»;
-      «internal_enable» = s .«internal_enable»;
-      «frequency_shadow» = s .«frequency_shadow»;
-      negate = s .negate;
-      «shift_n» = s .«shift_n»;
-      «calculation_happened» = true;
-    }
+flagged s = withCount s (s .«current_time») (s .«frequency_shadow») true
 
--- another sweep
-abbrev pub withSweep : PulseChannel → Sweep → PulseChannel
-withSweep p after =
+-- another sweep, duty and envelope of a pulse
+abbrev pub withShape : PulseChannel → Sweep → ℕ → Envelope → PulseChannel
+withShape p sweep duty envelope =
     record {
-      sweep = after;
+      sweep = sweep;
       «sequencer_position» = p .«sequencer_position»;
-      duty = p .duty;
-      envelope = p .envelope;
+      duty = duty;
+      envelope = envelope;
       frequency = p .frequency;
       «frequency_timer» = p .«frequency_timer»;
       «channel_enabled» = p .«channel_enabled»;
@@ -59,84 +43,24 @@ withSweep p after =
       «dac_enable» = p .«dac_enable»;
     }
 
--- another duty position
-abbrev pub withPosition : PulseChannel → ℕ → PulseChannel
-withPosition p position =
+-- another duty position, frequency and timer
+abbrev pub withTone : PulseChannel → ℕ → ℕ → ℕ → PulseChannel
+withTone p position frequency timer =
     record {
       sweep = p .sweep;
       «sequencer_position» = position;
       duty = p .duty;
       envelope = p .envelope;
-      frequency = p .frequency;
-      «frequency_timer» = p .«frequency_timer»;
-      «channel_enabled» = p .«channel_enabled»;
-      «first_trigger» = p .«first_trigger»;
-      «dac_enable» = p .«dac_enable»;
-    }
-
--- another duty
-abbrev pub withDuty : PulseChannel → ℕ → PulseChannel
-withDuty p duty =
-    record {
-      sweep = p .sweep;
-      «sequencer_position» = p .«sequencer_position»;
-      duty = duty;
-      envelope = p .envelope;
-      frequency = p .frequency;
-      «frequency_timer» = p .«frequency_timer»;
-      «channel_enabled» = p .«channel_enabled»;
-      «first_trigger» = p .«first_trigger»;
-      «dac_enable» = p .«dac_enable»;
-    }
-
--- another envelope
-abbrev pub withEnvelope : PulseChannel → Envelope → PulseChannel
-withEnvelope p after =
-    record {
-      sweep = p .sweep;
-      «sequencer_position» = p .«sequencer_position»;
-      duty = p .duty;
-      envelope = after;
-      frequency = p .frequency;
-      «frequency_timer» = p .«frequency_timer»;
-      «channel_enabled» = p .«channel_enabled»;
-      «first_trigger» = p .«first_trigger»;
-      «dac_enable» = p .«dac_enable»;
-    }
-
--- another frequency
-abbrev pub withFrequency : PulseChannel → ℕ → PulseChannel
-withFrequency p frequency =
-    record {
-      sweep = p .sweep;
-      «sequencer_position» = p .«sequencer_position»;
-      duty = p .duty;
-      envelope = p .envelope;
       frequency = frequency;
-      «frequency_timer» = p .«frequency_timer»;
-      «channel_enabled» = p .«channel_enabled»;
-      «first_trigger» = p .«first_trigger»;
-      «dac_enable» = p .«dac_enable»;
-    }
-
--- another timer
-abbrev pub withTimer : PulseChannel → ℕ → PulseChannel
-withTimer p timer =
-    record {
-      sweep = p .sweep;
-      «sequencer_position» = p .«sequencer_position»;
-      duty = p .duty;
-      envelope = p .envelope;
-      frequency = p .frequency;
       «frequency_timer» = timer;
       «channel_enabled» = p .«channel_enabled»;
       «first_trigger» = p .«first_trigger»;
       «dac_enable» = p .«dac_enable»;
     }
 
--- on or off
-abbrev pub withOn : PulseChannel → Bool → PulseChannel
-withOn p on =
+-- the channel on or off, its DAC on or off
+abbrev pub withSwitches : PulseChannel → Bool → Bool → PulseChannel
+withSwitches p on dac =
     record {
       sweep = p .sweep;
       «sequencer_position» = p .«sequencer_position»;
@@ -146,20 +70,29 @@ withOn p on =
       «frequency_timer» = p .«frequency_timer»;
       «channel_enabled» = on;
       «first_trigger» = p .«first_trigger»;
-      «dac_enable» = p .«dac_enable»;
-    }
-
--- the DAC on or off
-abbrev pub withDac : PulseChannel → Bool → PulseChannel
-withDac p dac =
-    record {
-      sweep = p .sweep;
-      «sequencer_position» = p .«sequencer_position»;
-      duty = p .duty;
-      envelope = p .envelope;
-      frequency = p .frequency;
-      «frequency_timer» = p .«frequency_timer»;
-      «channel_enabled» = p .«channel_enabled»;
-      «first_trigger» = p .«first_trigger»;
       «dac_enable» = dac;
     }
+
+abbrev pub withSweep : PulseChannel → Sweep → PulseChannel
+withSweep p sweep = withShape p sweep (p .duty) (p .envelope)
+
+abbrev pub withDuty : PulseChannel → ℕ → PulseChannel
+withDuty p duty = withShape p (p .sweep) duty (p .envelope)
+
+abbrev pub withEnvelope : PulseChannel → Envelope → PulseChannel
+withEnvelope p envelope = withShape p (p .sweep) (p .duty) envelope
+
+abbrev pub withPosition : PulseChannel → ℕ → PulseChannel
+withPosition p position = withTone p position (p .frequency) (p .«frequency_timer»)
+
+abbrev pub withFrequency : PulseChannel → ℕ → PulseChannel
+withFrequency p frequency = withTone p (p .«sequencer_position») frequency (p .«frequency_timer»)
+
+abbrev pub withTimer : PulseChannel → ℕ → PulseChannel
+withTimer p timer = withTone p (p .«sequencer_position») (p .frequency) timer
+
+abbrev pub withOn : PulseChannel → Bool → PulseChannel
+withOn p on = withSwitches p on (p .«dac_enable»)
+
+abbrev pub withDac : PulseChannel → Bool → PulseChannel
+withDac p dac = withSwitches p (p .«channel_enabled») dac

@@ -1,63 +1,18 @@
--- A wave channel with one thing written anew, all else as it was. None of these is a rule. Assumes nothing.
+-- A wave channel with one thing written anew, all else as it was: its fields in three rows, and each setter by its row's. None of these is a rule. Assumes nothing.
 use Prim.Native.Nat.{ℕ}
 use mathlib.Core.Bool.{Bool}
 use mathlib.Core.List.{List}
 use Rattle.channel_wave.specs.declared.wave_channel.WaveChannel.{WaveChannel}
 
--- another volume and stored shift
-abbrev pub withVolume : WaveChannel → ℕ → ℕ → WaveChannel
-withVolume w volume shift =
+-- another volume, stored shift, frequency and wave RAM
+abbrev pub withShape : WaveChannel → ℕ → ℕ → ℕ → List ℕ → WaveChannel
+withShape w volume shift frequency buffer =
     record {
       volume = volume;
       «volume_shift» = shift;
-      frequency = w .frequency;
-      buffer = w .buffer;
-      «buffer_position» = w .«buffer_position»;
-      «buffer_position_just_clocked» = w .«buffer_position_just_clocked»;
-      «frequency_timer» = w .«frequency_timer»;
-      «channel_enable» = w .«channel_enable»;
-      «dac_enable» = w .«dac_enable»;
-    }
-
--- another frequency
-abbrev pub withFrequency : WaveChannel → ℕ → WaveChannel
-withFrequency w frequency =
-    record {
-      volume = w .volume;
-      «volume_shift» = w .«volume_shift»;
       frequency = frequency;
-      buffer = w .buffer;
-      «buffer_position» = w .«buffer_position»;
-      «buffer_position_just_clocked» = w .«buffer_position_just_clocked»;
-      «frequency_timer» = w .«frequency_timer»;
-      «channel_enable» = w .«channel_enable»;
-      «dac_enable» = w .«dac_enable»;
-    }
-
--- other wave RAM
-abbrev pub withBuffer : WaveChannel → List ℕ → WaveChannel
-withBuffer w buffer =
-    record {
-      volume = w .volume;
-      «volume_shift» = w .«volume_shift»;
-      frequency = w .frequency;
       buffer = buffer;
       «buffer_position» = w .«buffer_position»;
-      «buffer_position_just_clocked» = w .«buffer_position_just_clocked»;
-      «frequency_timer» = w .«frequency_timer»;
-      «channel_enable» = w .«channel_enable»;
-      «dac_enable» = w .«dac_enable»;
-    }
-
--- another position
-abbrev pub withPosition : WaveChannel → ℕ → WaveChannel
-withPosition w position =
-    record {
-      volume = w .volume;
-      «volume_shift» = w .«volume_shift»;
-      frequency = w .frequency;
-      buffer = w .buffer;
-      «buffer_position» = position;
       «buffer_position_just_clocked» = w .«buffer_position_just_clocked»;
       «frequency_timer» = w .«frequency_timer»;
       «channel_enable» = w .«channel_enable»;
@@ -79,9 +34,9 @@ withPositionAndTimer w position just timer =
       «dac_enable» = w .«dac_enable»;
     }
 
--- on or off
-abbrev pub withOn : WaveChannel → Bool → WaveChannel
-withOn w on =
+-- the channel on or off, its DAC on or off
+abbrev pub withSwitches : WaveChannel → Bool → Bool → WaveChannel
+withSwitches w on dac =
     record {
       volume = w .volume;
       «volume_shift» = w .«volume_shift»;
@@ -91,20 +46,25 @@ withOn w on =
       «buffer_position_just_clocked» = w .«buffer_position_just_clocked»;
       «frequency_timer» = w .«frequency_timer»;
       «channel_enable» = on;
-      «dac_enable» = w .«dac_enable»;
-    }
-
--- the DAC on or off
-abbrev pub withDac : WaveChannel → Bool → WaveChannel
-withDac w dac =
-    record {
-      volume = w .volume;
-      «volume_shift» = w .«volume_shift»;
-      frequency = w .frequency;
-      buffer = w .buffer;
-      «buffer_position» = w .«buffer_position»;
-      «buffer_position_just_clocked» = w .«buffer_position_just_clocked»;
-      «frequency_timer» = w .«frequency_timer»;
-      «channel_enable» = w .«channel_enable»;
       «dac_enable» = dac;
     }
+
+-- another volume and stored shift
+abbrev pub withVolume : WaveChannel → ℕ → ℕ → WaveChannel
+withVolume w volume shift = withShape w volume shift (w .frequency) (w .buffer)
+
+abbrev pub withFrequency : WaveChannel → ℕ → WaveChannel
+withFrequency w frequency = withShape w (w .volume) (w .«volume_shift») frequency (w .buffer)
+
+-- other wave RAM
+abbrev pub withBuffer : WaveChannel → List ℕ → WaveChannel
+withBuffer w buffer = withShape w (w .volume) (w .«volume_shift») (w .frequency) buffer
+
+abbrev pub withPosition : WaveChannel → ℕ → WaveChannel
+withPosition w position = withPositionAndTimer w position (w .«buffer_position_just_clocked») (w .«frequency_timer»)
+
+abbrev pub withOn : WaveChannel → Bool → WaveChannel
+withOn w on = withSwitches w on (w .«dac_enable»)
+
+abbrev pub withDac : WaveChannel → Bool → WaveChannel
+withDac w dac = withSwitches w (w .«channel_enable») dac

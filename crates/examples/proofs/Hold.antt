@@ -14,7 +14,7 @@ use Rattle.frame.specs.Converter as converter
 use Rattle.frame.specs.Mixing.{sideOf}
 use Rattle.channel_groups.specs.PulseGroups.{byteOf}
 use Rattle.apu.specs.Start.{fresh, skipped}
-use Rattle.apu.specs.Registers.{readOf, byteAt, statusByte}
+use Rattle.apu.specs.Registers.{readOf, byteAt, byOffset, statusByte}
 use Rattle.channel_pulse.specs.Sweep as sweep
 use Rattle.channel_pulse.specs.Pulse as pulse
 use Rattle.channel_wave.specs.Wave as wave
@@ -37,7 +37,7 @@ four number n said e rows = given false false and given false true and given tru
     given skip dmg = frames skip dmg n ∙ e
 
 pub marked-hold : AllHold marked
-unfolding pick zeroAsEight fresh skipped readOf byteAt statusByte byteOf
+unfolding pick zeroAsEight fresh skipped readOf byteAt byOffset statusByte byteOf
     pulse.enveloped pulse.sweepWritten pulse.triggered pulse.sweepClocked
     sweep.triggered sweep.sweepStarted sweep.checked sweep.calculated sweep.targetOf sweep.clocked sweep.expired sweep.reloaded sweep.updated sweep.stored
     noise.reloadOf noise.divisorOf noise.steppedRegister noise.feedbackOf noise.putBit wave.triggered wave.bufferAtTrigger wave.rewritten wave.fourFrom

@@ -4,7 +4,7 @@ use mathlib.Core.Path.{_≡_, refl, _∙_, ap}
 use mathlib.Core.Bool.{Bool, true, false}
 use mathlib.Core.List.{[]}
 use native.Mathlib.Omega.{arith}
-use borrow.Author.Tests.{lt-ltb, le-ltb, le-leb, ne-eqb, ltb-true, ltb-false}
+use borrow.Author.Tests.{lt-ltb, le-leb, ltb-true, ltb-false}
 use lib.Dec.{eqb, ltb}
 use Rattle.ground.specs.Pick.{pick}
 use Rattle.ground.proofs.Cases.{pick-holds}
@@ -18,6 +18,7 @@ use Rattle.channel_groups.specs.NoiseGroups as noise
 use Rattle.apu.specs.With.{withPulse1, withPulse2, withWave, withNoise}
 use Rattle.apu.specs.Registers.{soundWritten, gatedWritten, writtenAt, writeOf}
 use Rattle.apu.specs.declared.Apu.{Apu}
+use Rattle.apu.proofs.Offsets.{at-pulse1, at-pulse2, at-wave, at-noise}
 use Rattle.apu.proofs.Ranges.{write-held}
 use Rattle.apu.proofs.Floats.{write-floats}
 use Rattle.log_records.specs.declared.judge.Record.{Record}
@@ -90,14 +91,11 @@ module _ (a : Apu) (addr value : ℕ) (on : a .power ≡ true) (low : 0xFF11 ≤
       let near : at < 22 = omega arith in
       rw (le-leb 0xFF10 addr least, le-leb addr 0xFF3F most, lt-ltb at 22 near, on)
 
-  not-first : eqb at 0 ≡ false
-  not-first = ne-eqb at 0 (λ (e : at ≡ 0). omega arith)
-
   to-pulse1 : addr < 0xFF15 → writeOf a addr value .apu ≡ groupWritten (to 1 0xFF10) a
   unfolding soundWritten groupWritten pick
   to-pulse1 h =
       let near : at < 5 = omega arith in
-      sound (omega arith) ∙ rw (not-first, lt-ltb at 5 near, on)
+      sound (omega arith) ∙ rw (at-pulse1 at _ (λ (e : at ≡ 0). omega arith) near, on)
 
   to-pulse2 : 0xFF15 ≤ addr → addr < 0xFF1A → writeOf a addr value .apu ≡ groupWritten (to 2 0xFF15) a
   unfolding soundWritten groupWritten pick
@@ -105,26 +103,23 @@ module _ (a : Apu) (addr value : ℕ) (on : a .power ≡ true) (low : 0xFF11 ≤
       let far : 5 ≤ at = omega arith in
       let near : at < 10 = omega arith in
       let same : at - 5 ≡ addr - 0xFF15 = omega arith in
-      sound (omega arith) ∙ rw (not-first, le-ltb at 5 far, lt-ltb at 10 near, on, same)
+      sound (omega arith) ∙ rw (at-pulse2 at _ far near, on, same)
 
   to-wave : 0xFF1A ≤ addr → addr < 0xFF1F → writeOf a addr value .apu ≡ groupWritten (to 3 0xFF1A) a
   unfolding soundWritten groupWritten pick
   to-wave l h =
-      let far : 5 ≤ at = omega arith in
-      let farther : 10 ≤ at = omega arith in
+      let far : 10 ≤ at = omega arith in
       let near : at < 15 = omega arith in
       let same : at - 10 ≡ addr - 0xFF1A = omega arith in
-      sound (omega arith) ∙ rw (not-first, le-ltb at 5 far, le-ltb at 10 farther, lt-ltb at 15 near, same)
+      sound (omega arith) ∙ rw (at-wave at _ far near, same)
 
   to-noise : 0xFF1F ≤ addr → addr < 0xFF24 → writeOf a addr value .apu ≡ groupWritten (to 4 0xFF1F) a
   unfolding soundWritten groupWritten pick
   to-noise l h =
-      let far : 5 ≤ at = omega arith in
-      let farther : 10 ≤ at = omega arith in
-      let farthest : 15 ≤ at = omega arith in
+      let far : 15 ≤ at = omega arith in
       let near : at < 20 = omega arith in
       let same : at - 15 ≡ addr - 0xFF1F = omega arith in
-      sound h ∙ rw (not-first, le-ltb at 5 far, le-ltb at 10 farther, le-ltb at 15 farthest, lt-ltb at 20 near, same)
+      sound h ∙ rw (at-noise at _ far near, same)
 
 -- ---- THE LAW: where a record is a write to a group, its unit is the unit with that group written
 wrote : (a : Apu) (addr value : ℕ) → a .power ≡ true → let w = groupAt addr value in

@@ -1,10 +1,12 @@
 -- Each way out is the case of `byteAt` that the offset picks. Assumes nothing.
+use mathlib.Core.Path.{sym, _∙_}
 use borrow.Author.Needs.{needs}
 use borrow.Author.Tests.{eq-eqb, ne-eqb, lt-ltb, le-ltb}
 use native.Mathlib.Omega.{arith}
 use Rattle.ground.specs.Pick.{pick}
 use Rattle.apu.specs.Registers.{byteAt}
 use Rattle.channel_pulse.proofs.Ranges.{sweep-byte-le}
+use Rattle.apu.proofs.Offsets.{at-sweep, at-pulse1, at-pulse2, at-wave, at-noise, past-groups}
 use Rattle.apu.proofs.Apu.byte_at.Statement.{statement}
 use Rattle.apu.proofs.Apu.byte_at.Tie as tie
 
@@ -14,98 +16,47 @@ byte-fits c =
     omega (arith, sweep-byte-le (start .args .self .pulse1 .channel .sweep), c .read-sweep-register .ensures)
 
 sweep-register : tie.Need-returns
-unfolding pick byteAt
+unfolding byteAt
 sweep-register c =
     let sweep = c .before .before in
-    rw (c .read-sweep-register .ensures, eq-eqb _ _ (sweep .if1 .taken))
+    rw (c .read-sweep-register .ensures, at-sweep _ _ (sweep .if1 .taken))
 
 of-pulse1 : tie.Need-returns-2
-unfolding pick byteAt
+unfolding byteAt
 of-pulse1 c =
     let pulse1 = c .before in
-    let sweep = pulse1 .before in
-    rw (c .read .ensures, ne-eqb _ _ (sweep .if1 .left), lt-ltb _ _ (pulse1 .if2 .taken))
+    c .read .ensures ∙ sym (at-pulse1 _ _ (pulse1 .before .if1 .left) (pulse1 .if2 .taken))
 
 of-pulse2 : tie.Need-returns-3
-unfolding pick byteAt
+unfolding byteAt
 of-pulse2 c =
     let pulse2 = c .before in
-    let pulse1 = pulse2 .before in
-    let sweep = pulse1 .before in
-    rw (
-      c .read2 .ensures,
-      ne-eqb _ _ (sweep .if1 .left),
-      le-ltb _ _ (pulse1 .if2 .left),
-      lt-ltb _ _ (pulse2 .if3 .taken),
-    )
+    c .read2 .ensures ∙ sym (at-pulse2 _ _ (pulse2 .before .if2 .left) (pulse2 .if3 .taken))
 
 of-wave : tie.Need-returns-4
-unfolding pick byteAt
+unfolding byteAt
 of-wave c =
     let wave = c .before in
-    let pulse2 = wave .before in
-    let pulse1 = pulse2 .before in
-    let sweep = pulse1 .before in
-    rw (
-      c .read3 .ensures,
-      ne-eqb _ _ (sweep .if1 .left),
-      le-ltb _ _ (pulse1 .if2 .left),
-      le-ltb _ _ (pulse2 .if3 .left),
-      lt-ltb _ _ (wave .if4 .taken),
-    )
+    c .read3 .ensures ∙ sym (at-wave _ _ (wave .before .if3 .left) (wave .if4 .taken))
 
 of-noise : tie.Need-returns-5
-unfolding pick byteAt
+unfolding byteAt
 of-noise c =
     let noise = c .before in
-    let wave = noise .before in
-    let pulse2 = wave .before in
-    let pulse1 = pulse2 .before in
-    let sweep = pulse1 .before in
-    rw (
-      c .read4 .ensures,
-      ne-eqb _ _ (sweep .if1 .left),
-      le-ltb _ _ (pulse1 .if2 .left),
-      le-ltb _ _ (pulse2 .if3 .left),
-      le-ltb _ _ (wave .if4 .left),
-      lt-ltb _ _ (noise .if5 .taken),
-    )
+    c .read4 .ensures ∙ sym (at-noise _ _ (noise .before .if4 .left) (noise .if5 .taken))
 
 control-register : tie.Need-returns-6
 unfolding pick byteAt
 control-register c =
     let noise = c .before in
-    let wave = noise .before in
-    let pulse2 = wave .before in
-    let pulse1 = pulse2 .before in
-    let sweep = pulse1 .before in
-    rw (
-      ne-eqb _ _ (sweep .if1 .left),
-      le-ltb _ _ (pulse1 .if2 .left),
-      le-ltb _ _ (pulse2 .if3 .left),
-      le-ltb _ _ (wave .if4 .left),
-      le-ltb _ _ (noise .if5 .left),
-      eq-eqb _ _ (c .if6 .taken),
-    )
+    rw (past-groups _ _ (noise .if5 .left), eq-eqb _ _ (c .if6 .taken))
 
 selection-register : tie.Need-returns-7
 unfolding pick byteAt
 selection-register c =
     let control = c .before in
     let noise = control .before in
-    let wave = noise .before in
-    let pulse2 = wave .before in
-    let pulse1 = pulse2 .before in
-    let sweep = pulse1 .before in
-    rw (
-      ne-eqb _ _ (sweep .if1 .left),
-      le-ltb _ _ (pulse1 .if2 .left),
-      le-ltb _ _ (pulse2 .if3 .left),
-      le-ltb _ _ (wave .if4 .left),
-      le-ltb _ _ (noise .if5 .left),
-      ne-eqb _ _ (control .if6 .left),
-      eq-eqb _ _ (c .if7 .taken),
-    )
+    rw (past-groups _ _ (noise .if5 .left), ne-eqb _ _ (control .if6 .left), eq-eqb _ _ (c .if7 .taken))
 
 power-register : tie.Need-returns-8
 unfolding pick byteAt
@@ -114,17 +65,9 @@ power-register c =
     let selection = power .before in
     let control = selection .before in
     let noise = control .before in
-    let wave = noise .before in
-    let pulse2 = wave .before in
-    let pulse1 = pulse2 .before in
-    let sweep = pulse1 .before in
     rw (
       c .status .ensures,
-      ne-eqb _ _ (sweep .if1 .left),
-      le-ltb _ _ (pulse1 .if2 .left),
-      le-ltb _ _ (pulse2 .if3 .left),
-      le-ltb _ _ (wave .if4 .left),
-      le-ltb _ _ (noise .if5 .left),
+      past-groups _ _ (noise .if5 .left),
       ne-eqb _ _ (control .if6 .left),
       ne-eqb _ _ (selection .if7 .left),
       eq-eqb _ _ (power .if8 .taken),
@@ -137,16 +80,8 @@ unused-register c =
     let selection = power .before in
     let control = selection .before in
     let noise = control .before in
-    let wave = noise .before in
-    let pulse2 = wave .before in
-    let pulse1 = pulse2 .before in
-    let sweep = pulse1 .before in
     rw (
-      ne-eqb _ _ (sweep .if1 .left),
-      le-ltb _ _ (pulse1 .if2 .left),
-      le-ltb _ _ (pulse2 .if3 .left),
-      le-ltb _ _ (wave .if4 .left),
-      le-ltb _ _ (noise .if5 .left),
+      past-groups _ _ (noise .if5 .left),
       ne-eqb _ _ (control .if6 .left),
       ne-eqb _ _ (selection .if7 .left),
       ne-eqb _ _ (power .if8 .left),
@@ -161,17 +96,9 @@ wave-ram c =
     let selection = power .before in
     let control = selection .before in
     let noise = control .before in
-    let wave = noise .before in
-    let pulse2 = wave .before in
-    let pulse1 = pulse2 .before in
-    let sweep = pulse1 .before in
     rw (
       c .read-buffer .ensures,
-      ne-eqb _ _ (sweep .if1 .left),
-      le-ltb _ _ (pulse1 .if2 .left),
-      le-ltb _ _ (pulse2 .if3 .left),
-      le-ltb _ _ (wave .if4 .left),
-      le-ltb _ _ (noise .if5 .left),
+      past-groups _ _ (noise .if5 .left),
       ne-eqb _ _ (control .if6 .left),
       ne-eqb _ _ (selection .if7 .left),
       ne-eqb _ _ (power .if8 .left),

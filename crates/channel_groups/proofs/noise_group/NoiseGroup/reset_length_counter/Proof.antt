@@ -1,6 +1,6 @@
 -- The parts are the definition's, by what the calls ensure. Assumes nothing.
 use borrow.Author.Needs.{needs}
-use Rattle.channel_groups.specs.NoiseGroups.{refilled}
+use Rattle.channel_groups.specs.Groups.{refilled}
 use Rattle.channel_groups.proofs.noise_group.NoiseGroup.reset_length_counter.Statement.{statement}
 use Rattle.channel_groups.proofs.noise_group.NoiseGroup.reset_length_counter.Tie as tie
 

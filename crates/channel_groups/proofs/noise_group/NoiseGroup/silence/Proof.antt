@@ -1,6 +1,6 @@
 -- The parts are the definition's, by what the calls ensure. Assumes nothing.
 use borrow.Author.Needs.{needs}
-use Rattle.channel_groups.specs.NoiseGroups.{silenced}
+use Rattle.channel_groups.specs.Groups.{silenced}
 use Rattle.channel_groups.proofs.noise_group.NoiseGroup.silence.Statement.{statement}
 use Rattle.channel_groups.proofs.noise_group.NoiseGroup.silence.Tie as tie
 

@@ -1,6 +1,6 @@
 -- The parts are the definition's, by what the calls ensure. Assumes nothing.
 use borrow.Author.Needs.{needs}
-use Rattle.channel_groups.specs.PulseGroups.{readied}
+use Rattle.channel_groups.specs.Groups.{readied}
 use Rattle.channel_groups.proofs.pulse_group.PulseGroup.ready.Statement.{statement}
 use Rattle.channel_groups.proofs.pulse_group.PulseGroup.ready.Tie as tie
 

@@ -1,6 +1,6 @@
 -- The parts are the definition's, by what the calls ensure. Assumes nothing.
 use borrow.Author.Needs.{needs}
-use Rattle.channel_groups.specs.PulseGroups.{triggered}
+use Rattle.channel_groups.specs.Groups.{triggered}
 use Rattle.channel_groups.proofs.pulse_group.PulseGroup.start.Statement.{statement}
 use Rattle.channel_groups.proofs.pulse_group.PulseGroup.start.Tie as tie
 

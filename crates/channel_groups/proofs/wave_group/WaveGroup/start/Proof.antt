@@ -1,6 +1,6 @@
 -- The parts are the definition's, by what the calls ensure. Assumes nothing.
 use borrow.Author.Needs.{needs}
-use Rattle.channel_groups.specs.WaveGroups.{triggered}
+use Rattle.channel_groups.specs.Groups.{triggered}
 use Rattle.channel_groups.proofs.wave_group.WaveGroup.start.Statement.{statement}
 use Rattle.channel_groups.proofs.wave_group.WaveGroup.start.Tie as tie
 
