@@ -1,4 +1,5 @@
--- The noise with its length record and its converter, as `Groups` has it, and its own registers. Rules from document 01, "Channel rules" and "Registers and power". Assumes nothing.
+-- The noise with its length record and its converter: what is its own. What all groups do alike stands in `Groups`.
+-- Rules from document 01, "Channel rules" and "Registers and power". Assumes nothing.
 use Prim.Native.Nat.{ℕ, _%_}
 use mathlib.Core.Bool.{Bool}
 use lib.Dec.{eqb}
