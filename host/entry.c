@@ -72,7 +72,9 @@ int main(void) {
         if (n - at < h.length || n - at - h.length < h.written || MOST < h.room) return 1;
         if (h.kind != 0) {
             played++;
-            if (!same(play_access_log, play_access_log_counted, &h, cases + at, out) || !same(besticoro_play_access_log, besticoro_play_access_log_counted, &h, cases + at, out)) fprintf(stderr, "case %zu differs\n", played), differ++;
+            int plain_same = same(play_access_log, play_access_log_counted, &h, cases + at, out);
+            int guarded_same = same(besticoro_play_access_log, besticoro_play_access_log_counted, &h, cases + at, out);
+            if (!plain_same || !guarded_same) fprintf(stderr, "case %zu differs\n", played), differ++;
         }
         at += h.length + h.written;
     }

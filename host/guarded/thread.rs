@@ -1,5 +1,10 @@
-//! thread FOLDER: a thread that sets its float mode itself and plays through the crate besticoro, beside threads in other modes. Ends with 1 where bytes are not the original's or a mode does not stand.
+//! thread FOLDER: threads that set their float modes themselves and play at once through the crate besticoro. Ends with 1 where bytes are not the original's or a mode does
+//! not stand, and where the unguarded entry gives the original's bytes in a thread with flush-to-zero too: then nothing was tried.
 use std::arch::asm;
+
+extern "C" {
+    fn play_access_log(log: *const u8, log_length: usize, out: *mut u8, out_length: usize) -> u64;
+}
 
 #[cfg(target_arch = "x86_64")]
 const MODES: [(&str, u64); 5] = [("the default", 0x1F80), ("flush-to-zero", 0x9F80), ("both flushed", 0x9FC0), ("rounding up, flushed", 0xDF80), ("traps unmasked, flags set", 0x003F)];
@@ -24,6 +29,10 @@ fn set_mode(mode: u64) {
     unsafe { asm!("msr fpcr, {}", in(reg) mode) };
 }
 
+fn said(same: bool) -> &'static str {
+    if same { "the original's" } else { "OTHERS" }
+}
+
 // Plays in a mode: whether the bytes are the original's, and whether the mode stood.
 fn play(log: &[u8], original: &[u8], wanted: u64) -> (bool, bool) {
     let mut out = vec![0; original.len()];
@@ -34,6 +43,16 @@ fn play(log: &[u8], original: &[u8], wanted: u64) -> (bool, bool) {
     (rendering.is_ok_and(|rendering| rendering.bytes() == original), after == wanted)
 }
 
+// The unguarded entry in a mode: whether its bytes are the original's.
+fn play_unguarded(log: &[u8], original: &[u8], mode: u64) -> bool {
+    let mut out = vec![0; original.len()];
+    set_mode(mode);
+    // SAFETY: each pointer and length is a live slice's own, and the two do not overlap.
+    unsafe { play_access_log(log.as_ptr(), log.len(), out.as_mut_ptr(), out.len()) };
+    set_mode(MODES[0].1);
+    out == original
+}
+
 fn main() {
     let folder = std::env::args().nth(1).expect("thread FOLDER");
     let read = |name: &str| std::fs::read(format!("{folder}/{name}")).expect("a residue log and its bytes");
@@ -41,11 +60,15 @@ fn main() {
     let mut wrong = 0;
     std::thread::scope(|scope| {
         let (log, original) = (&log, &original);
+        // what the guard is for, by the first two modes: the default and flush-to-zero
+        let [plain, flushed] = [MODES[0].1, MODES[1].1].map(|mode| scope.spawn(move || play_unguarded(log, original, mode)).join().expect("no thread panicked"));
+        wrong += u32::from(!plain) + u32::from(flushed);
+        println!("unguarded in a Rust thread: {} in the default, {} with flush-to-zero", said(plain), said(flushed));
         let threads = MODES.map(|(name, mode)| (name, scope.spawn(move || (0..20).map(|_| play(log, original, mode)).fold((true, true), |a, b| (a.0 & b.0, a.1 & b.1)))));
         for (name, thread) in threads {
             let (same, stood) = thread.join().expect("no thread panicked");
             wrong += u32::from(!same) + u32::from(!stood);
-            println!("a Rust thread, {name}: the bytes are {}, the mode {}", if same { "the original's" } else { "OTHERS" }, if stood { "stands" } else { "DOES NOT STAND" });
+            println!("a Rust thread, {name}: the bytes are {}, the mode {}", said(same), if stood { "stands" } else { "DOES NOT STAND" });
         }
     });
     println!("{} Rust threads at once, each in a mode of its own: {wrong} wrong", MODES.len());

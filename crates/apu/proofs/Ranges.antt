@@ -20,7 +20,7 @@ use Rattle.channel_groups.proofs.Ranges as group
 use Rattle.clocks.specs.Position.{PositionHeld}
 use Rattle.apu.specs.Held.{Held}
 use Rattle.apu.specs.With.{withPulse1, withPulse2, withWave, withNoise, withGroups}
-use Rattle.apu.specs.With.{withSwitches, withTime, withClocks, withBit, withPosition}
+use Rattle.apu.specs.With.{withUnitRegisters, withTiming, withClocks, withBit, withPosition}
 use Rattle.apu.specs.Start as start
 use Rattle.apu.specs.Registers.{soundWritten, gatedWritten, ramWritten, powerWritten, writtenAt, writeOf}
 use Rattle.apu.specs.Registers.{zeroed, silenced, poweredOff, restarted, refilled, poweredOn}
@@ -67,12 +67,12 @@ module _ (a : Apu) (h : Held a) where
   pub groups-held : (p q : PulseGroup) (w : WaveGroup) (n : NoiseGroup) → pulse.Held p → pulse.Held q → wave.Held w → noise.Held n → Held (withGroups a p q w n)
   groups-held p q w n hp hq hw hn = record { pulse1 = hp; pulse2 = hq; wave = hw; noise = hn; position = h .position; clocks = h .clocks }
 
-  switches-held : (control selection : ℕ) (on : Bool) → Held (withSwitches a control selection on)
-  switches-held control selection on =
+  unit-registers-held : (control selection : ℕ) (on : Bool) → Held (withUnitRegisters a control selection on)
+  unit-registers-held control selection on =
       record { pulse1 = h .pulse1; pulse2 = h .pulse2; wave = h .wave; noise = h .noise; position = h .position; clocks = h .clocks }
 
-  time-held : (counter : Float) (bit : Bool) (z : ℤ) (half : ℕ) → PositionHeld z → half ≤ 1 → Held (withTime a counter bit z half)
-  time-held counter bit z half k l = record { pulse1 = h .pulse1; pulse2 = h .pulse2; wave = h .wave; noise = h .noise; position = k; clocks = l }
+  timing-held : (counter : Float) (bit : Bool) (z : ℤ) (half : ℕ) → PositionHeld z → half ≤ 1 → Held (withTiming a counter bit z half)
+  timing-held counter bit z half k l = record { pulse1 = h .pulse1; pulse2 = h .pulse2; wave = h .wave; noise = h .noise; position = k; clocks = l }
 
   -- ---- and one field of a row
   pub pulse1-held : (g : PulseGroup) → pulse.Held g → Held (withPulse1 a g)
@@ -88,13 +88,13 @@ module _ (a : Apu) (h : Held a) where
   noise-held g k = groups-held _ _ _ g (h .pulse1) (h .pulse2) (h .wave) k
 
   pub clocks-held : (counter : Float) (half : ℕ) → half ≤ 1 → Held (withClocks a counter half)
-  clocks-held counter half k = time-held counter _ _ half (h .position) k
+  clocks-held counter half k = timing-held counter _ _ half (h .position) k
 
   pub bit-held : (bit : Bool) → Held (withBit a bit)
-  bit-held bit = time-held _ bit _ _ (h .position) (h .clocks)
+  bit-held bit = timing-held _ bit _ _ (h .position) (h .clocks)
 
   pub position-held : (z : ℤ) → PositionHeld z → Held (withPosition a z)
-  position-held z k = time-held _ _ z _ k (h .clocks)
+  position-held z k = timing-held _ _ z _ k (h .clocks)
 
 -- ---- writes and power
 pub sound-held : (a : Apu) (at v : ℕ) → v ≤ 255 → Held a → Held (soundWritten a at v)
@@ -106,7 +106,7 @@ sound-held a at v k h =
     (pulse2-held a h _ (group.pulse-written-held (a .pulse2) (at - 5) (a .power) _ v k (h .pulse2)))
     (wave-held a h _ (group.wave-written-held (a .wave) (at - 10) (a .«is_dmg») _ v k (h .wave)))
     (noise-held a h _ (group.noise-written-group-held (a .noise) (at - 15) _ v k (h .noise)))
-    (both-ways Held _ (switches-held a h v _ _) (switches-held a h _ v _))
+    (both-ways Held _ (unit-registers-held a h v _ _) (unit-registers-held a h _ v _))
 
 gated-held : (a : Apu) (at v : ℕ) → v ≤ 255 → Held a → Held (gatedWritten a at v)
 unfolding gatedWritten
@@ -124,18 +124,18 @@ zeroed-held a (suc n) h = sound-held (zeroed a n) n 0 (lit≤ tt) (zeroed-held a
 silenced-held : (a : Apu) → Held a → Held (silenced a)
 unfolding silenced
 silenced-held a h =
-    switches-held _
+    unit-registers-held _
     (groups-held a h _ _ _ _
-    (group.silenced-held group.pulse-kept (a .pulse1) (h .pulse1))
-    (group.silenced-held group.pulse-kept (a .pulse2) (h .pulse2))
-    (group.silenced-held group.wave-kept (a .wave) (h .wave))
-    (group.silenced-held group.noise-kept (a .noise) (h .noise)))
+    (group.silenced-held group.pulse-keeps (a .pulse1) (h .pulse1))
+    (group.silenced-held group.pulse-keeps (a .pulse2) (h .pulse2))
+    (group.silenced-held group.wave-keeps (a .wave) (h .wave))
+    (group.silenced-held group.noise-keeps (a .noise) (h .noise)))
     _ _ false
 
 restarted-held : (a : Apu) → Held a → Held (restarted a)
 unfolding restarted
 restarted-held a h =
-    switches-held _
+    unit-registers-held _
     (position-held _
     (groups-held a h _ _ _ _
     (group.pulse-rewound-held (a .pulse1) (h .pulse1))
@@ -149,10 +149,10 @@ refilled-held : (a : Apu) → Held a → Held (refilled a)
 unfolding refilled
 refilled-held a h =
     groups-held a h _ _ _ _
-    (group.refilled-held group.pulse-kept (a .pulse1) (h .pulse1))
-    (group.refilled-held group.pulse-kept (a .pulse2) (h .pulse2))
-    (group.refilled-held group.wave-kept (a .wave) (h .wave))
-    (group.refilled-held group.noise-kept (a .noise) (h .noise))
+    (group.refilled-held group.pulse-keeps (a .pulse1) (h .pulse1))
+    (group.refilled-held group.pulse-keeps (a .pulse2) (h .pulse2))
+    (group.refilled-held group.wave-keeps (a .wave) (h .wave))
+    (group.refilled-held group.noise-keeps (a .noise) (h .noise))
 
 power-written-held : (a : Apu) (v : ℕ) → Held a → Held (powerWritten a v)
 unfolding powerWritten poweredOn poweredOff

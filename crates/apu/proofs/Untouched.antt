@@ -12,7 +12,7 @@ use Rattle.channel_groups.specs.declared.noise_group.NoiseGroup.{NoiseGroup}
 use Rattle.channel_groups.proofs.Untouched.{pulse-untouched, wave-untouched, noise-untouched}
 use Rattle.apu.specs.Registers.{soundWritten, gatedWritten, ramWritten, powerWritten, writtenAt, writeOf}
 use Rattle.apu.specs.Registers.{zeroed, silenced, poweredOff, restarted, refilled, poweredOn}
-use Rattle.apu.specs.With.{withGroups, withSwitches}
+use Rattle.apu.specs.With.{withGroups, withUnitRegisters}
 use Rattle.apu.specs.declared.Apu.{Apu}
 use Rattle.apu.proofs.Offsets.{of-each}
 use Rattle.apu.specs.declared.registers.Written.{Written}
@@ -45,8 +45,8 @@ module _ (a : Apu) where
       → Untouched a (withGroups a p q w n)
   regrouped p q w n first second third fourth = record { half = refl; counter = refl; pulse1 = first; pulse2 = second; wave = third; noise = fourth }
 
-  switched : (control selection : ℕ) (on : Bool) → Untouched a (withSwitches a control selection on)
-  switched control selection on = record { half = refl; counter = refl; pulse1 = refl; pulse2 = refl; wave = refl; noise = refl }
+  unit-registers : (control selection : ℕ) (on : Bool) → Untouched a (withUnitRegisters a control selection on)
+  unit-registers control selection on = record { half = refl; counter = refl; pulse1 = refl; pulse2 = refl; wave = refl; noise = refl }
 
 sound : (a : Apu) (at v : ℕ) → Untouched a (soundWritten a at v)
 unfolding soundWritten pulse.sweepWritten
@@ -57,7 +57,7 @@ sound a at v =
     (regrouped a _ _ _ _ refl (pulse-untouched (a .pulse2) (at - 5) (a .power) _ v) refl refl)
     (regrouped a _ _ _ _ refl refl (wave-untouched (a .wave) (at - 10) (a .«is_dmg») _ v) refl)
     (regrouped a _ _ _ _ refl refl refl (noise-untouched (a .noise) (at - 15) _ v))
-    (both-ways (Untouched a) _ (switched a v _ _) (switched a _ v _))
+    (both-ways (Untouched a) _ (unit-registers a v _ _) (unit-registers a _ v _))
 
 zeroes : (a : Apu) (n : ℕ) → Untouched a (zeroed a n)
 unfolding zeroed
@@ -66,7 +66,7 @@ zeroes a (suc n) = then (zeroes a n) (sound (zeroed a n) n 0)
 
 silent : (a : Apu) → Untouched a (silenced a)
 unfolding silenced any.silenced
-silent a = then (regrouped a _ _ _ _ refl refl refl refl) (switched _ _ _ _)
+silent a = then (regrouped a _ _ _ _ refl refl refl refl) (unit-registers _ _ _ _)
 
 started : (a : Apu) → Untouched a (restarted a)
 unfolding restarted pulse.rewound wave.rewound

@@ -27,8 +27,8 @@ withGroups a p q w n =
     }
 
 -- FF24, FF25 and the power anew
-abbrev pub withSwitches : Apu → ℕ → ℕ → Bool → Apu
-withSwitches a control selection on =
+abbrev pub withUnitRegisters : Apu → ℕ → ℕ → Bool → Apu
+withUnitRegisters a control selection on =
     record {
       pulse1 = a .pulse1;
       pulse2 = a .pulse2;
@@ -45,8 +45,8 @@ withSwitches a control selection on =
     }
 
 -- what only clock calls and the power move, anew: sample counter, stored divider bit, sequencer position, half-clocks
-abbrev pub withTime : Apu → Float → Bool → ℤ → ℕ → Apu
-withTime a counter bit position half =
+abbrev pub withTiming : Apu → Float → Bool → ℤ → ℕ → Apu
+withTiming a counter bit position half =
     record {
       pulse1 = a .pulse1;
       pulse2 = a .pulse2;
@@ -76,23 +76,23 @@ withNoise a g = withGroups a (a .pulse1) (a .pulse2) (a .wave) g
 
 -- another FF24
 abbrev pub withControl : Apu → ℕ → Apu
-withControl a v = withSwitches a v (a .«channels_selection») (a .power)
+withControl a v = withUnitRegisters a v (a .«channels_selection») (a .power)
 
 -- another FF25
 abbrev pub withSelection : Apu → ℕ → Apu
-withSelection a v = withSwitches a (a .«channels_control») v (a .power)
+withSelection a v = withUnitRegisters a (a .«channels_control») v (a .power)
 
 abbrev pub withPower : Apu → Bool → Apu
-withPower a on = withSwitches a (a .«channels_control») (a .«channels_selection») on
+withPower a on = withUnitRegisters a (a .«channels_control») (a .«channels_selection») on
 
 -- another sample counter and half-clocks
 abbrev pub withClocks : Apu → Float → ℕ → Apu
-withClocks a counter half = withTime a counter (a .«divider_sequencer_clock_bit») (a .«sequencer_position») half
+withClocks a counter half = withTiming a counter (a .«divider_sequencer_clock_bit») (a .«sequencer_position») half
 
 -- another stored divider bit
 abbrev pub withBit : Apu → Bool → Apu
-withBit a bit = withTime a (a .«sample_counter») bit (a .«sequencer_position») (a .«clocks_counter»)
+withBit a bit = withTiming a (a .«sample_counter») bit (a .«sequencer_position») (a .«clocks_counter»)
 
 -- another sequencer position
 abbrev pub withPosition : Apu → ℤ → Apu
-withPosition a position = withTime a (a .«sample_counter») (a .«divider_sequencer_clock_bit») position (a .«clocks_counter»)
+withPosition a position = withTiming a (a .«sample_counter») (a .«divider_sequencer_clock_bit») position (a .«clocks_counter»)

@@ -41,43 +41,43 @@ high-le f v = omega arith
 
 -- ---- what is alike for every kind of group
 -- a kind whose groups are in their ranges if their length record and channel are, and whose channel stays so when it goes on or off
-pub record Kept {G C : Type 0} (k : Kind G C) (most : ℕ) (Own : C → Type 0) : Type 0 where
+pub record KeepsRanges {G C : Type 0} (k : Kind G C) (most : ℕ) (Own : C → Type 0) : Type 0 where
   pub put : (d : Converter) (l : Length) (c : C) → length.Held most l → Own c → any.Held k most Own (k .put d l c)
   pub switched : (c : C) → Own c → (on : Bool) → Own (k .switched c on)
 
-module _ {G C : Type 0} {k : Kind G C} {most : ℕ} {Own : C → Type 0} (kept : Kept k most Own) (g : G) (h : any.Held k most Own g) where
+module _ {G C : Type 0} {k : Kind G C} {most : ℕ} {Own : C → Type 0} (ranges : KeepsRanges k most Own) (g : G) (h : any.Held k most Own g) where
   pub length-clock-held : any.Held k most Own (any.lengthClocked k g)
   unfolding any.lengthClocked
-  length-clock-held = kept .put _ _ _ (length-clocked-held most (k .length g) (h .length)) (kept .switched _ (h .channel) _)
+  length-clock-held = ranges .put _ _ _ (length-clocked-held most (k .length g) (h .length)) (ranges .switched _ (h .channel) _)
 
   pub readied-held : (tuned : C → C) → ((c : C) → Own c → Own (tuned c)) → (even : Bool) (v : ℕ) → any.Held k most Own (any.readied k tuned g even v)
   unfolding any.readied
   readied-held tuned keeps even v =
-      kept .put _ _ _ (length-enabling-held most (k .length g) _ even (h .length)) (kept .switched _ (keeps _ (h .channel)) _)
+      ranges .put _ _ _ (length-enabling-held most (k .length g) _ even (h .length)) (ranges .switched _ (keeps _ (h .channel)) _)
 
   pub triggered-held : (started : C → C) → ((c : C) → Own c → Own (started c)) → (even : Bool) → any.Held k most Own (any.triggered k started g even)
   unfolding any.triggered
-  triggered-held started keeps even = kept .put _ _ _ (length-triggered-held most (k .length g) (h .length) even) (keeps _ (h .channel))
+  triggered-held started keeps even = ranges .put _ _ _ (length-triggered-held most (k .length g) (h .length) even) (keeps _ (h .channel))
 
   pub refilled-held : any.Held k most Own (any.refilled k g)
   unfolding any.refilled
-  refilled-held = kept .put _ _ _ (length-reset-held most (k .length g) (h .length)) (h .channel)
+  refilled-held = ranges .put _ _ _ (length-reset-held most (k .length g) (h .length)) (h .channel)
 
   pub silenced-held : any.Held k most Own (any.silenced k g)
   unfolding any.silenced
-  silenced-held = kept .put _ _ _ (h .length) (kept .switched _ (h .channel) false)
+  silenced-held = ranges .put _ _ _ (h .length) (ranges .switched _ (h .channel) false)
 
-controlled-held : {G C : Type 0} {k : Kind G C} {most : ℕ} {Own : C → Type 0} → Kept k most Own
+controlled-held : {G C : Type 0} {k : Kind G C} {most : ℕ} {Own : C → Type 0} → KeepsRanges k most Own
     → (tuned started : C → C) → ((c : C) → Own c → Own (tuned c)) → ((c : C) → Own c → Own (started c))
     → (g : G) (even : Bool) (v : ℕ) → any.Held k most Own g → any.Held k most Own (any.controlled k tuned started g even v)
 unfolding any.controlled
-controlled-held kept tuned started tunes starts g even v h =
-    let ready = readied-held kept g h tuned tunes even v in
-    both-ways (any.Held _ _ _) _ (triggered-held kept _ ready started starts even) ready
+controlled-held ranges tuned started tunes starts g even v h =
+    let ready = readied-held ranges g h tuned tunes even v in
+    both-ways (any.Held _ _ _) _ (triggered-held ranges _ ready started starts even) ready
 
 -- ---- a pulse
-pub pulse-kept : Kept pulse.kind 64 pulseChannel.Held
-pulse-kept = record { put = λ d l c hl hc. record { length = hl; channel = hc }; switched = pulse-on-held }
+pub pulse-keeps : KeepsRanges pulse.kind 64 pulseChannel.Held
+pulse-keeps = record { put = λ d l c hl hc. record { length = hl; channel = hc }; switched = pulse-on-held }
 
 pub pulse-retuned-held : (v : ℕ) (c : PulseChannel) → pulseChannel.Held c → pulseChannel.Held (pulse.retuned v c)
 pulse-retuned-held v c h = pulse-frequency-held c h _ (high-le (c .frequency) v)
@@ -144,11 +144,11 @@ pulse-written-held g at power even v k h =
     both-ways pulse.Held _ (pulse-length-held g h power v)
     (both-ways pulse.Held _ (pulse-envelope-written-held g h v k)
     (both-ways pulse.Held _ (pulse-tuned-held g h v k)
-    (both-ways pulse.Held _ (controlled-held pulse-kept _ _ (pulse-retuned-held v) pulse-triggered-held g even v h) h)))
+    (both-ways pulse.Held _ (controlled-held pulse-keeps _ _ (pulse-retuned-held v) pulse-triggered-held g even v h) h)))
 
 -- ---- the wave
-pub wave-kept : Kept wave.kind 256 waveChannel.Held
-wave-kept = record { put = λ d l c hl hc. record { length = hl; channel = hc }; switched = wave-on-held }
+pub wave-keeps : KeepsRanges wave.kind 256 waveChannel.Held
+wave-keeps = record { put = λ d l c hl hc. record { length = hl; channel = hc }; switched = wave-on-held }
 
 pub wave-retuned-held : (v : ℕ) (c : WaveChannel) → waveChannel.Held c → waveChannel.Held (wave.retuned v c)
 wave-retuned-held v c h = wave-frequency-held c h _ (high-le (c .frequency) v)
@@ -204,11 +204,11 @@ wave-written-held g at dmg even v k h =
     (both-ways wave.Held _ (wave-length-held g h v)
     (both-ways wave.Held _ (wave-volume-written-held g h v)
     (both-ways wave.Held _ (wave-tuned-held g h v k)
-    (both-ways wave.Held _ (controlled-held wave-kept _ _ (wave-retuned-held v) (λ c k. wave-triggered-held c k dmg) g even v h) h))))
+    (both-ways wave.Held _ (controlled-held wave-keeps _ _ (wave-retuned-held v) (λ c k. wave-triggered-held c k dmg) g even v h) h))))
 
 -- ---- the noise
-pub noise-kept : Kept noise.kind 64 noiseChannel.Held
-noise-kept = record { put = λ d l c hl hc. record { length = hl; channel = hc }; switched = noise-on-held }
+pub noise-keeps : KeepsRanges noise.kind 64 noiseChannel.Held
+noise-keeps = record { put = λ d l c hl hc. record { length = hl; channel = hc }; switched = noise-on-held }
 
 pub noise-group-fresh-held : noise.Held noise.fresh
 noise-group-fresh-held = record { length = length-fresh-held 64; channel = noise-fresh-held }
@@ -252,4 +252,4 @@ noise-written-group-held g at even v k h =
     both-ways noise.Held _ (noise-length-held g h v)
     (both-ways noise.Held _ (noise-envelope-written-held g h v k)
     (both-ways noise.Held _ (noise-set-held g h v k)
-    (both-ways noise.Held _ (controlled-held noise-kept _ _ (λ c k. k) noise-triggered-held g even v h) h)))
+    (both-ways noise.Held _ (controlled-held noise-keeps _ _ (λ c k. k) noise-triggered-held g even v h) h)))

@@ -35,17 +35,17 @@ module _ {G C : Type 0} (k : Kind G C) where
   withChannel g c = k .put (k .converter g) (k .length g) c
 
   -- what a length clock leaves, and the channel off where it "turns the channel off"
-  abbrev pub counted : G → Clocked → C → G
-  counted g after c = k .put (k .converter g) (after .length) (k .switched c (k .on c && not (after .off)))
+  abbrev pub lengthCounted : G → Clocked → C → G
+  lengthCounted g after c = k .put (k .converter g) (after .length) (k .switched c (k .on c && not (after .off)))
 
   -- "A length clock .. turns the channel off"
   unfoldable pub lengthClocked : G → G
-  lengthClocked g = counted g (length.clocked (k .length g)) (k .channel g)
+  lengthClocked g = lengthCounted g (length.clocked (k .length g)) (k .channel g)
 
   -- "An FFx4 write sets the frequency first (not noise), then length enable; newly enabled while the next position .. is even, length is clocked at once":
   -- `tuned` sets the frequency
   unfoldable pub readied : (C → C) → G → Bool → ℕ → G
-  readied tuned g even value = counted g (length.enabling (k .length g) (enableOf value) even) (tuned (k .channel g))
+  readied tuned g even value = lengthCounted g (length.enabling (k .length g) (enableOf value) even) (tuned (k .channel g))
 
   -- "A trigger with counter 0 sets the maximum": of the length record, and of the channel by its own rule, `started`
   unfoldable pub triggered : (C → C) → G → Bool → G

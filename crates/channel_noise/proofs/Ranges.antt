@@ -31,17 +31,17 @@ module _ (n : NoiseChannel) (h : noise.Held n) where
   pub noise-written-held : (v : ℕ) → v ≤ 255 → noise.Held (noise.written n v)
   noise-written-held v k = record { shift = omega arith; code = omega arith; timer = h .timer; register = h .register; envelope = h .envelope }
 
-  switches-held : (e : Envelope) (on dac : Bool) → envelope.Held e → noise.Held (with.withSwitches n e on dac)
-  switches-held e on dac k = record { shift = h .shift; code = h .code; timer = h .timer; register = h .register; envelope = k }
+  envelope-on-dac-held : (e : Envelope) (on dac : Bool) → envelope.Held e → noise.Held (with.withEnvelopeOnAndDac n e on dac)
+  envelope-on-dac-held e on dac k = record { shift = h .shift; code = h .code; timer = h .timer; register = h .register; envelope = k }
 
   pub noise-envelope-held : (e : Envelope) → envelope.Held e → noise.Held (with.withEnvelope n e)
-  noise-envelope-held e k = switches-held e _ _ k
+  noise-envelope-held e k = envelope-on-dac-held e _ _ k
 
   pub noise-on-held : (on : Bool) → noise.Held (with.withOn n on)
-  noise-on-held on = switches-held _ on _ (h .envelope)
+  noise-on-held on = envelope-on-dac-held _ on _ (h .envelope)
 
   pub noise-dac-held : (dac : Bool) → noise.Held (noise.dacSet n dac)
-  noise-dac-held dac = switches-held _ _ dac (h .envelope)
+  noise-dac-held dac = envelope-on-dac-held _ _ dac (h .envelope)
 
   pub noise-register-timer-held : (register timer : ℕ) → register ≤ 0x7FFF → timer ≤ 16383 → noise.Held (with.withRegisterAndTimer n register timer)
   noise-register-timer-held register timer a b = record { shift = h .shift; code = h .code; timer = b; register = a; envelope = h .envelope }

@@ -1,4 +1,5 @@
--- A noise channel with one thing written anew, all else as it was: its fields in three rows, and each setter by its row's. None of these is a rule. Assumes nothing.
+-- A noise channel with one thing written anew, all else as it was: its fields in three rows, and each setter by its row's.
+-- None of these is a rule. Assumes nothing.
 use Prim.Native.Nat.{ℕ}
 use mathlib.Core.Bool.{Bool}
 use Rattle.channel_parts.specs.declared.envelope.Envelope.{Envelope}
@@ -33,8 +34,8 @@ withRegisterAndTimer n register timer =
     }
 
 -- another envelope, the channel on or off, its DAC on or off
-abbrev pub withSwitches : NoiseChannel → Envelope → Bool → Bool → NoiseChannel
-withSwitches n after on dac =
+abbrev pub withEnvelopeOnAndDac : NoiseChannel → Envelope → Bool → Bool → NoiseChannel
+withEnvelopeOnAndDac n after on dac =
     record {
       «shift_clock_frequency» = n .«shift_clock_frequency»;
       «step_mode_7_bits» = n .«step_mode_7_bits»;
@@ -47,10 +48,10 @@ withSwitches n after on dac =
     }
 
 abbrev pub withEnvelope : NoiseChannel → Envelope → NoiseChannel
-withEnvelope n after = withSwitches n after (n .«channel_enabled») (n .«dac_enable»)
+withEnvelope n after = withEnvelopeOnAndDac n after (n .«channel_enabled») (n .«dac_enable»)
 
 abbrev pub withOn : NoiseChannel → Bool → NoiseChannel
-withOn n on = withSwitches n (n .envelope) on (n .«dac_enable»)
+withOn n on = withEnvelopeOnAndDac n (n .envelope) on (n .«dac_enable»)
 
 abbrev pub withDac : NoiseChannel → Bool → NoiseChannel
-withDac n dac = withSwitches n (n .envelope) (n .«channel_enabled») dac
+withDac n dac = withEnvelopeOnAndDac n (n .envelope) (n .«channel_enabled») dac

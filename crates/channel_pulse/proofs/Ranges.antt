@@ -83,40 +83,42 @@ pulse-fresh-held =
 
 module _ (p : PulseChannel) (h : pulse.Held p) where
   -- a row of fields written anew
-  shape-held : (s : Sweep) (d : ℕ) (e : Envelope) → sweep.Held s → d ≤ 3 → envelope.Held e → pulse.Held (with.withShape p s d e)
-  shape-held s d e a b k = record { sweep = a; position = h .position; duty = b; envelope = k; frequency = h .frequency; timer = h .timer }
+  sweep-duty-envelope-held : (s : Sweep) (d : ℕ) (e : Envelope) → sweep.Held s → d ≤ 3 → envelope.Held e → pulse.Held (with.withSweepDutyAndEnvelope p s d e)
+  sweep-duty-envelope-held s d e a b k = record { sweep = a; position = h .position; duty = b; envelope = k; frequency = h .frequency; timer = h .timer }
 
-  tone-held : (position f timer : ℕ) → position ≤ 7 → f ≤ 2047 → timer ≤ 2047 → pulse.Held (with.withTone p position f timer)
-  tone-held position f timer a b k = record { sweep = h .sweep; position = a; duty = h .duty; envelope = h .envelope; frequency = b; timer = k }
+  position-frequency-timer-held : (position f timer : ℕ) → position ≤ 7 → f ≤ 2047 → timer ≤ 2047
+      → pulse.Held (with.withPositionFrequencyAndTimer p position f timer)
+  position-frequency-timer-held position f timer a b k =
+      record { sweep = h .sweep; position = a; duty = h .duty; envelope = h .envelope; frequency = b; timer = k }
 
-  switches-held : (on dac : Bool) → pulse.Held (with.withSwitches p on dac)
-  switches-held on dac =
+  on-dac-held : (on dac : Bool) → pulse.Held (with.withOnAndDac p on dac)
+  on-dac-held on dac =
       record { sweep = h .sweep; position = h .position; duty = h .duty; envelope = h .envelope; frequency = h .frequency; timer = h .timer }
 
   -- and one field of a row
   pub pulse-sweep-held : (s : Sweep) → sweep.Held s → pulse.Held (with.withSweep p s)
-  pulse-sweep-held s k = shape-held s _ _ k (h .duty) (h .envelope)
+  pulse-sweep-held s k = sweep-duty-envelope-held s _ _ k (h .duty) (h .envelope)
 
   pub pulse-duty-held : (d : ℕ) → pulse.Held (pulse.dutyWritten p d)
-  pulse-duty-held d = shape-held _ _ _ (h .sweep) (omega arith) (h .envelope)
+  pulse-duty-held d = sweep-duty-envelope-held _ _ _ (h .sweep) (omega arith) (h .envelope)
 
   pub pulse-envelope-held : (e : Envelope) → envelope.Held e → pulse.Held (with.withEnvelope p e)
-  pulse-envelope-held e k = shape-held _ _ e (h .sweep) (h .duty) k
+  pulse-envelope-held e k = sweep-duty-envelope-held _ _ e (h .sweep) (h .duty) k
 
   pub pulse-frequency-held : (f : ℕ) → f ≤ 2047 → pulse.Held (with.withFrequency p f)
-  pulse-frequency-held f k = tone-held _ f _ (h .position) k (h .timer)
+  pulse-frequency-held f k = position-frequency-timer-held _ f _ (h .position) k (h .timer)
 
   pub pulse-position-held : (position : ℕ) → position ≤ 7 → pulse.Held (with.withPosition p position)
-  pulse-position-held position k = tone-held position _ _ k (h .frequency) (h .timer)
+  pulse-position-held position k = position-frequency-timer-held position _ _ k (h .frequency) (h .timer)
 
   pulse-timer-held : (timer : ℕ) → timer ≤ 2047 → pulse.Held (with.withTimer p timer)
-  pulse-timer-held timer k = tone-held _ _ timer (h .position) (h .frequency) k
+  pulse-timer-held timer k = position-frequency-timer-held _ _ timer (h .position) (h .frequency) k
 
   pub pulse-on-held : (on : Bool) → pulse.Held (with.withOn p on)
-  pulse-on-held on = switches-held on _
+  pulse-on-held on = on-dac-held on _
 
   pub pulse-dac-held : (dac : Bool) → pulse.Held (pulse.dacSet p dac)
-  pulse-dac-held dac = switches-held _ dac
+  pulse-dac-held dac = on-dac-held _ dac
 
   pub pulse-triggered-held : pulse.Held (pulse.triggered p)
   unfolding pulse.triggered

@@ -1,4 +1,5 @@
--- A sweep and a pulse channel with one thing written anew, all else as it was: the fields in rows, and each setter by its row's. None of these is a rule. Assumes nothing.
+-- A sweep and a pulse channel with one thing written anew, all else as it was: the fields in rows, and each setter by its row's.
+-- None of these is a rule. Assumes nothing.
 use Prim.Native.Nat.{ℕ}
 use mathlib.Core.Bool.{Bool, true}
 use Rattle.channel_parts.specs.declared.envelope.Envelope.{Envelope}
@@ -6,8 +7,8 @@ use Rattle.channel_pulse.specs.declared.sweep.Sweep.{Sweep}
 use Rattle.channel_pulse.specs.declared.pulse_channel.PulseChannel.{PulseChannel}
 
 -- another counter, shadow and "calculated" flag of a sweep
-abbrev pub withCount : Sweep → ℕ → ℕ → Bool → Sweep
-withCount s time shadow calculated =
+abbrev pub withTimeShadowAndFlag : Sweep → ℕ → ℕ → Bool → Sweep
+withTimeShadowAndFlag s time shadow calculated =
     record {
       period = s .period;
       «current_time» = time;
@@ -19,18 +20,18 @@ withCount s time shadow calculated =
     }
 
 abbrev pub withTime : Sweep → ℕ → Sweep
-withTime s time = withCount s time (s .«frequency_shadow») (s .«calculation_happened»)
+withTime s time = withTimeShadowAndFlag s time (s .«frequency_shadow») (s .«calculation_happened»)
 
 abbrev pub withShadow : Sweep → ℕ → Sweep
-withShadow s shadow = withCount s (s .«current_time») shadow (s .«calculation_happened»)
+withShadow s shadow = withTimeShadowAndFlag s (s .«current_time») shadow (s .«calculation_happened»)
 
 -- the "calculated" flag set
 abbrev pub flagged : Sweep → Sweep
-flagged s = withCount s (s .«current_time») (s .«frequency_shadow») true
+flagged s = withTimeShadowAndFlag s (s .«current_time») (s .«frequency_shadow») true
 
 -- another sweep, duty and envelope of a pulse
-abbrev pub withShape : PulseChannel → Sweep → ℕ → Envelope → PulseChannel
-withShape p sweep duty envelope =
+abbrev pub withSweepDutyAndEnvelope : PulseChannel → Sweep → ℕ → Envelope → PulseChannel
+withSweepDutyAndEnvelope p sweep duty envelope =
     record {
       sweep = sweep;
       «sequencer_position» = p .«sequencer_position»;
@@ -44,8 +45,8 @@ withShape p sweep duty envelope =
     }
 
 -- another duty position, frequency and timer
-abbrev pub withTone : PulseChannel → ℕ → ℕ → ℕ → PulseChannel
-withTone p position frequency timer =
+abbrev pub withPositionFrequencyAndTimer : PulseChannel → ℕ → ℕ → ℕ → PulseChannel
+withPositionFrequencyAndTimer p position frequency timer =
     record {
       sweep = p .sweep;
       «sequencer_position» = position;
@@ -59,8 +60,8 @@ withTone p position frequency timer =
     }
 
 -- the channel on or off, its DAC on or off
-abbrev pub withSwitches : PulseChannel → Bool → Bool → PulseChannel
-withSwitches p on dac =
+abbrev pub withOnAndDac : PulseChannel → Bool → Bool → PulseChannel
+withOnAndDac p on dac =
     record {
       sweep = p .sweep;
       «sequencer_position» = p .«sequencer_position»;
@@ -74,25 +75,25 @@ withSwitches p on dac =
     }
 
 abbrev pub withSweep : PulseChannel → Sweep → PulseChannel
-withSweep p sweep = withShape p sweep (p .duty) (p .envelope)
+withSweep p sweep = withSweepDutyAndEnvelope p sweep (p .duty) (p .envelope)
 
 abbrev pub withDuty : PulseChannel → ℕ → PulseChannel
-withDuty p duty = withShape p (p .sweep) duty (p .envelope)
+withDuty p duty = withSweepDutyAndEnvelope p (p .sweep) duty (p .envelope)
 
 abbrev pub withEnvelope : PulseChannel → Envelope → PulseChannel
-withEnvelope p envelope = withShape p (p .sweep) (p .duty) envelope
+withEnvelope p envelope = withSweepDutyAndEnvelope p (p .sweep) (p .duty) envelope
 
 abbrev pub withPosition : PulseChannel → ℕ → PulseChannel
-withPosition p position = withTone p position (p .frequency) (p .«frequency_timer»)
+withPosition p position = withPositionFrequencyAndTimer p position (p .frequency) (p .«frequency_timer»)
 
 abbrev pub withFrequency : PulseChannel → ℕ → PulseChannel
-withFrequency p frequency = withTone p (p .«sequencer_position») frequency (p .«frequency_timer»)
+withFrequency p frequency = withPositionFrequencyAndTimer p (p .«sequencer_position») frequency (p .«frequency_timer»)
 
 abbrev pub withTimer : PulseChannel → ℕ → PulseChannel
-withTimer p timer = withTone p (p .«sequencer_position») (p .frequency) timer
+withTimer p timer = withPositionFrequencyAndTimer p (p .«sequencer_position») (p .frequency) timer
 
 abbrev pub withOn : PulseChannel → Bool → PulseChannel
-withOn p on = withSwitches p on (p .«dac_enable»)
+withOn p on = withOnAndDac p on (p .«dac_enable»)
 
 abbrev pub withDac : PulseChannel → Bool → PulseChannel
-withDac p dac = withSwitches p (p .«channel_enabled») dac
+withDac p dac = withOnAndDac p (p .«channel_enabled») dac

@@ -52,35 +52,36 @@ wave-fresh-held =
 
 module _ (w : WaveChannel) (h : wave.Held w) where
   -- a row of fields written anew
-  shape-held : (v s f : ℕ) (b : List ℕ) → v ≤ 3 → wave.ShiftHeld v s → f ≤ 2047 → length b ≡ 16 → wave.Held (with.withShape w v s f b)
-  shape-held v s f b hv hs hf hb = record { volume = hv; shift = hs; frequency = hf; buffer = hb; position = h .position; timer = h .timer }
+  volume-frequency-ram-held : (v s f : ℕ) (b : List ℕ) → v ≤ 3 → wave.ShiftHeld v s → f ≤ 2047 → length b ≡ 16
+      → wave.Held (with.withVolumeFrequencyAndRam w v s f b)
+  volume-frequency-ram-held v s f b hv hs hf hb = record { volume = hv; shift = hs; frequency = hf; buffer = hb; position = h .position; timer = h .timer }
 
-  place-held : (position : ℕ) (just : Bool) (timer : ℕ) → position ≤ 31 → timer ≤ 2050 → wave.Held (with.withPositionAndTimer w position just timer)
-  place-held position just timer a b =
+  position-timer-held : (position : ℕ) (just : Bool) (timer : ℕ) → position ≤ 31 → timer ≤ 2050 → wave.Held (with.withPositionAndTimer w position just timer)
+  position-timer-held position just timer a b =
       record { volume = h .volume; shift = h .shift; frequency = h .frequency; buffer = h .buffer; position = a; timer = b }
 
-  switches-held : (on dac : Bool) → wave.Held (with.withSwitches w on dac)
-  switches-held on dac =
+  on-dac-held : (on dac : Bool) → wave.Held (with.withOnAndDac w on dac)
+  on-dac-held on dac =
       record { volume = h .volume; shift = h .shift; frequency = h .frequency; buffer = h .buffer; position = h .position; timer = h .timer }
 
   -- and one field of a row
   pub wave-volume-held : (v : ℕ) → wave.Held (wave.volumeWritten w v)
-  wave-volume-held v = shape-held _ _ _ _ (omega arith) (inl refl) (h .frequency) (h .buffer)
+  wave-volume-held v = volume-frequency-ram-held _ _ _ _ (omega arith) (inl refl) (h .frequency) (h .buffer)
 
   pub wave-frequency-held : (f : ℕ) → f ≤ 2047 → wave.Held (with.withFrequency w f)
-  wave-frequency-held f k = shape-held _ _ f _ (h .volume) (h .shift) k (h .buffer)
+  wave-frequency-held f k = volume-frequency-ram-held _ _ f _ (h .volume) (h .shift) k (h .buffer)
 
   wave-buffer-held : (b : List ℕ) → length b ≡ 16 → wave.Held (with.withBuffer w b)
-  wave-buffer-held b k = shape-held _ _ _ b (h .volume) (h .shift) (h .frequency) k
+  wave-buffer-held b k = volume-frequency-ram-held _ _ _ b (h .volume) (h .shift) (h .frequency) k
 
   pub wave-position-held : wave.Held (with.withPosition w 0)
-  wave-position-held = place-held 0 _ _ (omega arith) (h .timer)
+  wave-position-held = position-timer-held 0 _ _ (omega arith) (h .timer)
 
   pub wave-on-held : (on : Bool) → wave.Held (with.withOn w on)
-  wave-on-held on = switches-held on _
+  wave-on-held on = on-dac-held on _
 
   pub wave-dac-held : (dac : Bool) → wave.Held (wave.dacSet w dac)
-  wave-dac-held dac = switches-held _ dac
+  wave-dac-held dac = on-dac-held _ dac
 
   stored-length : (i : BufferIndex) (v : ℕ) → length (wave.storedIn (w .buffer) i v) ≡ 16
   stored-length (At i) v = simp length-set (h .buffer)
@@ -92,7 +93,7 @@ module _ (w : WaveChannel) (h : wave.Held w) where
 
   pub wave-timer-held : wave.Held (wave.timerClocked w)
   unfolding wave.timerClocked
-  wave-timer-held = both-ways wave.Held _ (place-held _ _ _ (omega arith) (omega arith)) (place-held _ _ _ (h .position) (omega arith))
+  wave-timer-held = both-ways wave.Held _ (position-timer-held _ _ _ (omega arith) (omega arith)) (position-timer-held _ _ _ (h .position) (omega arith))
 
   trigger-length : (dmg : Bool) → length (wave.bufferAtTrigger w dmg) ≡ 16
   unfolding wave.bufferAtTrigger wave.rewritten wave.fourFrom

@@ -37,13 +37,19 @@ print-refused-requires : tie.Need-print-refused-requires
 print-refused-requires c κs = search needs
 
 returns : tie.Need-returns
-returns c = c .before .before .before .before .before .before .before .before .clock .ensures .1 .0
+returns c =
+    let clock = c .before .before .before .before .before .before .before .before .clock in
+    clock .ensures .1 .0
 
 returns-2 : tie.Need-returns-2
-returns-2 c = c .before .before .before .before .before .before .before .before .before .before .before .before .before .before .clock .ensures .1 .0
+returns-2 c =
+    let clock = c .before .before .before .before .before .before .before .before .before .before .before .before .before .before .clock in
+    clock .ensures .1 .0
 
 returns-3 : tie.Need-returns-3
-returns-3 c = c .before .before .before .before .before .before .before .before .before .clock .ensures .1 .0
+returns-3 c =
+    let clock = c .before .before .before .before .before .before .before .before .before .clock in
+    clock .ensures .1 .0
 
 pub show-clock-spec : {M : Type 1} → statement M
 show-clock-spec =

@@ -46,7 +46,8 @@ add-i c = omega arith
 
 add-fall : tie.Need-add-fall Inv-loop μ-loop
 add-fall c =
-    omega (arith, c .before .before .before .before .before .before .loop .inv .few)
+    let inv = c .before .before .before .before .before .before .loop .inv in
+    omega (arith, inv .few)
 
 fall-requires : tie.Need-fall-requires Inv-loop μ-loop
 fall-requires c κs =
@@ -67,7 +68,8 @@ sub-owed c =
     let stretch = turn .same-bit .ensures .1 in
     let bit = here .before .sequencer-bit .ensures in
     let met = meets (calls _ _ _ (stretch .0 .1)) (stretch .1) (here .before .before .divider-at .ensures) bit (here .meet .ensures) in
-    falls inv met (c .before .before .before .before .before .before .if1 .taken) .count
+    let fell = c .before .before .before .before .before .before .if1 .taken in
+    falls inv met fell .count
 
 loop-less : tie.Need-loop-less Inv-loop μ-loop
 loop-less c =
@@ -85,7 +87,8 @@ loop-again c =
     let bit = here .before .sequencer-bit .ensures in
     let met = meets (calls _ _ _ (stretch .0 .1)) (stretch .1) (here .before .before .divider-at .ensures) bit (here .meet .ensures) in
     let fell = c .before .before .before .before .fall .ensures in
-    rw (fell .0, fell .1 .0) (turn-fell inv met (c .before .before .before .before .before .before .if1 .taken))
+    let taken = c .before .before .before .before .before .before .if1 .taken in
+    rw (fell .0, fell .1 .0) (turn-fell inv met taken)
 
 add-owed : tie.Need-add-owed Inv-loop μ-loop
 add-owed c =

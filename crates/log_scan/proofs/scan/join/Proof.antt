@@ -3,6 +3,11 @@ use borrow.Author.Needs.{needs}
 use Rattle.log_scan.proofs.scan.join.Statement.{statement}
 use Rattle.log_scan.proofs.scan.join.Tie as tie
 
+returns : tie.Need-returns
+returns c =
+    let marks = c .before .before .before .before .before .before .before .before .or-mark in
+    rw (marks .ensures)
+
 pub join-spec : {M : Type 1} → statement M
 join-spec =
     tie.close
@@ -12,4 +17,4 @@ join-spec =
     (λ c. search needs)
     (λ c. search needs)
     (λ c. search needs)
-    (λ c. rw (c .before .before .before .before .before .before .before .before .or-mark .ensures)))
+    returns)

@@ -3,7 +3,7 @@ use borrow.Author.Needs.{needs}
 use borrow.Author.Tests.{le-leb, lt-leb}
 use Rattle.ground.specs.Pick.{pick}
 use Rattle.channel_groups.specs.Groups.{controlled}
-use Rattle.channel_groups.proofs.Ranges.{readied-held, pulse-kept, pulse-retuned-held}
+use Rattle.channel_groups.proofs.Ranges.{readied-held, pulse-keeps, pulse-retuned-held}
 use Rattle.channel_groups.proofs.pulse_group.PulseGroup.write_control.Statement.{statement}
 use Rattle.channel_groups.proofs.pulse_group.PulseGroup.write_control.Tie as tie
 
@@ -11,7 +11,7 @@ ready-requires : tie.Need-ready-requires
 ready-requires c κs = search needs
 
 start-requires : tie.Need-start-requires
-start-requires c κs = rw (c .before .ready .ensures) (readied-held pulse-kept _ (c .before .before .pre) _ (pulse-retuned-held _) _ _)
+start-requires c κs = rw (c .before .ready .ensures) (readied-held pulse-keeps _ (c .before .before .pre) _ (pulse-retuned-held _) _ _)
 
 returns : tie.Need-returns
 unfolding pick controlled
