@@ -24,3 +24,8 @@ pub record FloatsHeld (a : Apu) : Type 0 where
   pub wave : wave.FloatHeld (a .wave)
   pub noise : noise.FloatHeld (a .noise)
   pub counter : Kept 48 K (a .«sample_counter»)
+
+-- all ranges of a unit: what every call keeps, what a unit taken from an image has, and what playing asks
+pub record Whole (a : Apu) : Type 0 where
+  pub held : Held a
+  pub floats : FloatsHeld a

@@ -3,7 +3,7 @@
 use mathlib.Core.Path.{_≡_, refl, sym, ap, ap₂, _∙_}
 use mathlib.Core.Bool.{Bool, true, false, _&&_}
 use mathlib.Core.List.{List, _∷_}
-use Prim.Native.Nat.{ℕ, zero, suc, _+_, _-_, _*_, _/_, _^_}
+use Prim.Native.Nat.{ℕ, zero, suc, _+_, _-_, _*_, _/_, _^_, _≤_, _<_}
 use native.Mathlib.Omega.{arith}
 use lib.Dec.{ltb}
 use lib.Ieee.{Float, ofBits}
@@ -12,14 +12,18 @@ use Rattle.ground.proofs.Cases.{pick-holds, pick-false}
 use Rattle.clocks.specs.Counter.{everyAt, tickBy}
 use Rattle.clocks.specs.Calls.{Call, atSpeed, halfClocksOf, Clocks, clocked, call, run, fresh, times, K}
 use Rattle.clocks.specs.Rows.{steps, kinds}
-use Rattle.clocks.proofs.Seen.{seen, seen-conserved}
+use Rattle.clocks.specs.Distance.{unitsIn}
+use Rattle.clocks.specs.Metered as metered
+use Rattle.clocks.proofs.Seen.{seen, seen-conserved, seen-conserved-from}
+use Rattle.clocks.proofs.Distances.{kept-is, kept-below, kept-value}
 use Rattle.clocks.proofs.Conserved.{K-is, frames-by-formula}
 use Rattle.frame.specs.Buffers.{Buffers, roomFor}
+use Rattle.apu.specs.Held.{Held, FloatsHeld}
 use Rattle.apu.specs.Start as start
 use Rattle.apu.specs.Registers.{readOf, writeOf}
 use Rattle.apu_clock.specs.Clocking.{After, answered, pushed, passed, frameOf, frameDue, worked, clockOf, makesFrame}
 use Rattle.apu_clock.specs.Answers.{refusalOf}
-use Rattle.apu_clock.specs.Demand3.{startOf, Demand3}
+use Rattle.apu_clock.specs.Demand3.{startOf, Demand3, meterOf, KeptConserved}
 use Rattle.apu_clock.specs.Uses.{Use, read, write, pcm12, pcm34, clock, State, counted, step, readKind, writeKind, clockKind, kind, see}
 use Rattle.apu.specs.declared.Apu.{Apu}
 use Rattle.apu.specs.declared.registers.Read.{Read}
@@ -125,6 +129,29 @@ demand-3 =
       others = λ u s e. law u s ∙ ap (λ (k : Call). call n k (see s)) e;
       refusals = λ u s e. law u s ∙ ap (λ (k : Call). call n k (see s)) e;
     }
+
+-- from any unit in its ranges, with what it has stored
+pub stored-held : (a : Apu) → Held a → FloatsHeld a → metered.Held K (meterOf a)
+stored-held a h f = record { half = below (h .clocks); rest = kept-below (a .«sample_counter») (f .counter) }
+  where
+    below : {g : ℕ} → g ≤ 1 → g < 2
+    below l = omega arith
+
+pub stored-seen : (a : Apu) (f : ℕ) → FloatsHeld a → before a f ≡ metered.clocksOf 48 (meterOf a) f
+stored-seen a f k = ap (λ (x : Float). record { half = a .«clocks_counter»; counter = x; frames = f }) (kept-is (a .«sample_counter») (k .counter))
+
+pub kept-conserved : (a : Apu) → Held a → FloatsHeld a → (f : ℕ) → KeptConserved a f
+kept-conserved a h k f =
+    record {
+      stored = kept-value (a .«sample_counter») (k .counter);
+      conserved = λ uses. seen-conserved-from see kind step law uses (record { apu = a; frames = f }) (meterOf a) f (stored-held a h k) (stored-seen a f k);
+    }
+
+-- both constructors' units have nothing stored: `from-nothing` of the clocks makes `Conserved` of it
+pub start-stored : (skip dmg : Bool) → meterOf (start.constructed skip dmg) ≡ metered.fresh
+unfolding pick start.skipped start.fresh ofBits unitsIn
+start-stored true dmg = refl
+start-stored false dmg = refl
 
 -- ---- a row of clock calls, each with room for a frame: its frames by the formula
 room-kind : (a : Apu) (d : Bool) (v place : ℕ) (b : Buffers) → roomFor place b ≡ true → clockKind d (clockOf a d v place b .clocked .answer) ≡ atSpeed d

@@ -1,4 +1,5 @@
--- From either constructor, over any row of uses, the unit is in its ranges, numbers and floats: so every promise of the next call applies. Assumes nothing.
+-- Over any row of uses a unit stays in its ranges, numbers and floats: so every promise of the next call applies. Both constructors' units are in them.
+-- Assumes nothing.
 use mathlib.Core.Bool.{Bool, true, false}
 use mathlib.Core.List.{List, [], _∷_}
 use Prim.Native.Nat.{_≤_}
@@ -13,7 +14,7 @@ use Rattle.apu_clock.proofs.Ranges.{clock-held}
 use Rattle.apu_clock.proofs.Floats.{clock-floats}
 
 -- both ranges
-abbrev InRanges : State → Type 0
+abbrev pub InRanges : State → Type 0
 InRanges s = Held (s .apu) × FloatsHeld (s .apu)
 
 one-use : (u : Use) (s : State) → valueOf u ≤ 255 → InRanges s → InRanges (step u s)
@@ -24,10 +25,11 @@ one-use pcm12 s v h = h
 one-use pcm34 s v h = h
 one-use (clock d v place b) s k h = (clock-held (s .apu) d v place b (h .0), clock-floats (s .apu) d v place b (h .0) (h .1))
 
-any-uses : (us : List Use) (s : State) → Bytes us → InRanges s → InRanges (steps step us s)
+-- from any unit in its ranges
+pub uses-held-from : (us : List Use) (s : State) → Bytes us → InRanges s → InRanges (steps step us s)
 unfolding steps
-any-uses [] s end h = h
-any-uses (u ∷ us) s (v then vs) h = any-uses us (step u s) vs (one-use u s v h)
+uses-held-from [] s end h = h
+uses-held-from (u ∷ us) s (v then vs) h = uses-held-from us (step u s) vs (one-use u s v h)
 
 start-ranges : (skip dmg : Bool) → InRanges (startOf skip dmg)
 unfolding pick
@@ -35,4 +37,4 @@ start-ranges true dmg = (skipped-held dmg, skipped-floats dmg)
 start-ranges false dmg = (new-held dmg, new-floats dmg)
 
 pub uses-held : (skip dmg : Bool) (us : List Use) → Bytes us → let a = steps step us (startOf skip dmg) .apu in Held a × FloatsHeld a
-uses-held skip dmg us b = any-uses us (startOf skip dmg) b (start-ranges skip dmg)
+uses-held skip dmg us b = uses-held-from us (startOf skip dmg) b (start-ranges skip dmg)

@@ -5,7 +5,7 @@ use mathlib.Core.Bool.{Bool, true, false, not}
 use mathlib.Core.List.{List, [], _∷_}
 use Prim.Native.Nat.{ℕ, zero, suc, _+_, _-_, _*_, _/_, _%_, _^_, _≤_, _<_}
 use native.Mathlib.Nat.{mod-lt, mod-eq-of-lt, div-eq-of-lt, div-add-mod', mul-add-div-right, mul-add-mod-self-right, mod-eq-sub-div-mul}
-use native.Mathlib.Nat.{add-zero, zero-add, add-assoc, add-mul, one-mul, zero-mul, lt-of-lt-of-le, le-trans, le-add-right}
+use native.Mathlib.Nat.{add-zero, zero-add, add-assoc, add-sub-cancel-left, sub-zero, add-mul, one-mul, zero-mul, lt-of-lt-of-le, le-trans, le-add-right}
 use native.Mathlib.Numerals.{one-add}
 use native.Mathlib.Omega.{arith}
 use lib.Dec.{T, leb, ltb, leb→le, nleb→lt, ltb→lt, nltb→le, lit≤, lit<}
@@ -18,6 +18,9 @@ use Rattle.ground.specs.Units.{unitsOf}
 use Rattle.clocks.specs.Counter.{everyAt, tickBy}
 use Rattle.clocks.specs.Calls.{Call, normal, double, other, refused, Clocks, more, after, clocked, run, fresh}
 use Rattle.clocks.specs.Calls.{normals, doubles, times, workingClocks, K, Conserved}
+use Rattle.clocks.specs.Metered.{Held, clocksOf, unitsFrom, ConservedFrom}
+use Rattle.clocks.specs.Metered as metered
+use Rattle.clocks.specs.declared.meter.Meter.{Meter}
 use Rattle.ground.proofs.Units.{exact}
 use Rattle.clocks.proofs.Working.{left, Room, room-pos, tick-units}
 
@@ -128,6 +131,22 @@ from-kept u M f g k cs r G h =
     rw (a, b, c, mod-eq-of-lt h, div-eq-of-lt h, add-zero f) in
     ap (run (unitsOf binary64 u M) cs) (sym start) ∙ run-reached u M f k cs g r
 
+-- demand 3 from there, in its words
+pub conserved-from : (u M : ℕ) → Room u M → (m : Meter) → Held M m → (f : ℕ) (cs : List Call)
+    → ConservedFrom u M m f cs (run (unitsOf binary64 u M) cs (clocksOf u m f))
+conserved-from u M r m h f cs =
+    let t = unitsFrom u m cs in
+    let small : t % M < 2 ^ 53 = lt-of-lt-of-le (mod-lt t (room-pos r)) (le-trans (le-add-right M (2 ^ u)) (r .high)) in
+    rw (from-kept u M f (m .half) (m .rest) cs r (h .half) (h .rest), ← add-assoc (m .half) (2 * normals cs) (doubles cs))
+    (record {
+      frames = refl;
+      rest = rw (add-sub-cancel-left f (t / M), ← mod-eq-sub-div-mul t M) (exact binary64 u (t % M) (r .deep) small);
+      half = odd (m .half) (normals cs) (doubles cs);
+    })
+  where
+    odd : (g a b : ℕ) → (g + 2 * a + b) % 2 ≡ (g + b) % 2
+    odd g a b = omega arith
+
 -- ---- from a fresh unit, over any calls, with N as M units of 2 ^ -u
 round-zero : round binary64 false 0 1 ≡ fin false 0 (pos 0)
 unfolding round
@@ -137,30 +156,25 @@ zero-units : (u : ℕ) → unitsOf binary64 u 0 ≡ fin false 0 (pos 0)
 unfolding unitsOf
 zero-units u = round-same binary64 false 0 (2 ^ u) 0 1 (pow-pos u) (lit< tt) (sym (zero-mul (2 ^ u))) ∙ round-zero
 
-same-W : (a b : ℕ) → (0 + (2 * a + b)) / 2 ≡ a + b / 2
+same-W : (a b : ℕ) → (0 + 2 * a + b) / 2 ≡ a + b / 2
 same-W a b = omega arith
 
-same-half : (a b : ℕ) → (0 + (2 * a + b)) % 2 ≡ b % 2
-same-half a b = omega arith
-
--- the whole state
-pub from-fresh : (u M : ℕ) → Room u M → (cs : List Call) → run (unitsOf binary64 u M) cs fresh ≡ heldAt u M 0 (doubles cs % 2) (workingClocks cs * 2 ^ u)
-from-fresh u M r cs =
-    ap (λ (x : Float). run (unitsOf binary64 u M) cs (record { half = 0; counter = x; frames = 0 })) (sym (zero-units u))
-    ∙ from-kept u M 0 0 0 cs r (lit< tt) (room-pos r)
-    ∙ rw (same-W (normals cs) (doubles cs), same-half (normals cs) (doubles cs), zero-add (workingClocks cs * 2 ^ u))
+-- the same, from a half-clock of 0 and a rest of 0
+pub from-nothing : {u M : ℕ} {cs : List Call} {m : Clocks} → ConservedFrom u M metered.fresh 0 cs m → Conserved u M cs m
+from-nothing {u} {M} {cs} {m} c =
+    let same : unitsFrom u metered.fresh cs ≡ workingClocks cs * 2 ^ u =
+    rw (same-W (normals cs) (doubles cs), zero-add (workingClocks cs * 2 ^ u)) in
+    record {
+      frames = rw same at (c .frames) ∙ zero-add (workingClocks cs * 2 ^ u / M);
+      rest = rw (same, sub-zero (m .frames)) at (c .rest);
+      half = c .half ∙ ap (λ (x : ℕ). x % 2) (zero-add (doubles cs));
+    }
 
 -- demand 3, in its words
 pub conserved-by : (u M : ℕ) → Room u M → (cs : List Call) → Conserved u M cs (run (unitsOf binary64 u M) cs fresh)
 conserved-by u M r cs =
-    let t = workingClocks cs * 2 ^ u in
-    let small : t % M < 2 ^ 53 = lt-of-lt-of-le (mod-lt t (room-pos r)) (le-trans (le-add-right M (2 ^ u)) (r .high)) in
-    rw (from-fresh u M r cs)
-    (record {
-      frames = zero-add (t / M);
-      rest = rw (zero-add (t / M), ← mod-eq-sub-div-mul t M) (exact binary64 u (t % M) (r .deep) small);
-      half = refl;
-    })
+    let held : Held M metered.fresh = record { half = lit< tt; rest = room-pos r } in
+    rw (← zero-units u) (from-nothing (conserved-from u M r metered.fresh held 0 cs))
 
 -- ---- at 44,100
 pub K-is : 11025 * K ≡ 2 ^ 66 + 1511
@@ -180,6 +194,10 @@ every-units = nearest-is ∙ sym units-are
 
 pub room : Room 48 K
 room = record { deep = lit≤ tt; low = lit≤ tt; high = lit≤ tt }
+
+-- from a stored half-clock and remainder: document 02, "For it demand 3 starts from the stored remainder and half-clock"
+pub conserved-from-44100 : (m : Meter) → Held K m → (f : ℕ) (cs : List Call) → ConservedFrom 48 K m f cs (run (everyAt 44100) cs (clocksOf 48 m f))
+conserved-from-44100 m h f cs = rw every-units (conserved-from 48 K room m h f cs)
 
 pub conserved : (cs : List Call) → Conserved 48 K cs (run (everyAt 44100) cs fresh)
 conserved cs = rw every-units (conserved-by 48 K room cs)

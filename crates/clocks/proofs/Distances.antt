@@ -136,6 +136,9 @@ module _ (c : Float) (h : Kept 48 K c) where
   pub kept-below : unitsIn c < K
   kept-below = rw kept-in (h .below)
 
+  pub kept-value : HasValue c false (unitsIn c) (2 ^ 48)
+  kept-value = rw (h .is, units-in (h .units) (h .below)) (value (h .units) (h .below))
+
 -- an f64 holds each number below K
 pub K-held : (k : ℕ) → k < K → T (inFloat binary64 (pos k))
 unfolding inFloat

@@ -1,4 +1,4 @@
--- How far the next frame is, in working clocks. Assumes nothing.
+-- The units in a sample counter, and how far the next frame is, in working clocks. Assumes nothing.
 use Prim.Native.Nat.{ℕ, zero, suc, _+_, _*_, _/_, _^_}
 use lib.Ieee.{Float, nan, inf, fin, up, down}
 use Rattle.ground.specs.Pick.{pick}

@@ -5,5 +5,4 @@ pub mod Rows  -- a row of calls on a unit, and how its clocks see them
 pub mod Rates  -- other sample rates
 pub mod Metered  -- frames by whole numbers
 pub mod Position  -- the sequencer's position
--- ---- for speed and its proofs alone: no rule is said in these words, and no promise to who calls the unit or plays a log
-pub mod Distance  -- how far the next frame is
+pub mod Distance  -- the units in a stored counter; and, for speed and its proofs alone, how far the next frame is

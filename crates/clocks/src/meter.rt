@@ -2,7 +2,7 @@
 ghost use mathlib.Core.Path.{_≡_};
 ghost use Prim.Native.Nat.{_≤_, min};
 ghost use Rattle.clocks.specs.Calls.{K};
-ghost use Rattle.clocks.specs.Metered.{Held, fresh, metered, framesOf};
+ghost use Rattle.clocks.specs.Metered.{Held, metered, framesFrom};
 use crate::sample_counter::half_clocks_of;
 
 // What a working clock adds: 2^48 units of 2^-48.
@@ -31,13 +31,6 @@ fn at_most(n: u64, top: u64) -> u64
 }
 
 impl Meter {
-    // The meter of a fresh unit.
-    pub fn new() -> Meter
-        ensures { λ r. ⌜ r ≡ fresh ⌝ }
-    {
-        Meter { half: 0, rest: 0 }
-    }
-
     // So many clock calls at one speed. 16,385 working clocks of 2^48 units and a rest below K stay under 2^64.
     pub fn calls(self, double: bool, count: u64) -> Metered
         requires { ⌜ Held K self ⌝ }
@@ -56,17 +49,18 @@ impl Meter {
     }
 }
 
-// The frames that so many half-clocks make from a fresh unit, 16,384 of them at a time.
-pub fn frames_of(halves: u64) -> u64
-    ensures { λ r. ⌜ r ≡ framesOf halves ⌝ }
+// The frames that so many half-clocks make from a meter on, 16,384 of them at a time.
+pub fn frames_from(meter: Meter, halves: u64) -> u64
+    requires { ⌜ Held K meter ⌝ }
+    ensures { λ r. ⌜ r ≡ framesFrom 48 K meter halves ⌝ }
 {
-    let mut meter = Meter::new();
+    let mut at = meter;
     let mut frames: u64 = 0;
     let mut left = halves;
     while 0 < left {
         let some = at_most(left, 16384);
-        let metered = meter.calls(true, some);
-        meter = metered.meter;
+        let metered = at.calls(true, some);
+        at = metered.meter;
         frames += metered.frames;
         left -= some;
     }

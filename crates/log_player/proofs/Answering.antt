@@ -6,50 +6,62 @@ use mathlib.Core.List.{List}
 use native.Mathlib.Nat.{zero-add}
 use lib.ListN.{length, getD}
 use lib.Seq.{sets, sets-eq}
+use Rattle.apu.specs.Held.{Held, FloatsHeld}
+use Rattle.apu.specs.declared.Apu.{Apu}
+use Rattle.apu_clock.specs.Demand3.{meterOf}
+use Rattle.apu_clock.proofs.Demand3.{stored-held}
 use Rattle.log_records.specs.Records.{listed}
-use Rattle.log_scan.specs.Answers.{refusalOf, returnedOf, isDone, scannedAs, scannedOf, withinRoom, outAfter}
+use Rattle.log_scan.specs.Answers.{refusalOf, returnedOf, isDone, scannedAs, scannedFrom, withinRoom, outAfter}
 use Rattle.log_scan.proofs.Refusals.{log-refuses}
 use Rattle.log_scan.proofs.Bounds.{Packs, answer-packs}
-use Rattle.log_scan.proofs.Done.{done-long, done-fits, done-out, refused-out}
+use Rattle.log_scan.proofs.Done.{done-fits, done-out, refused-out}
 use Rattle.log_scan.specs.declared.answer.LogAnswer.{LogAnswer}
-use Rattle.log_player.specs.Logs.{bytesOfLog, framesOfLog, answerOf, refusedLog, returnedLog}
-use Rattle.log_player.proofs.Frames.{frames-made, bytes-needed}
+use Rattle.log_player.specs.Playing.{unitOfStart, output}
+use Rattle.log_player.specs.Frames.{madeBy}
+use Rattle.log_player.specs.Logs.{answerOn, refusedOn, returnedOn, answerOf}
+use Rattle.log_player.proofs.Frames.{frames-made, bytes-needed, start-ready}
 
--- bytes and frames by the formula are those that are made
-counted : (s : List ℕ) → scannedOf s ≡ scannedAs (length (bytesOfLog s)) (framesOfLog s) s
-counted s =
-    let start = getD s 1 0 in
-    ap₂ (λ (n f : ℕ). scannedAs n f s) (bytes-needed (listed s) start) (sym (frames-made (listed s) start))
+-- ---- on a unit in its ranges
+module _ (a : Apu) (h : Held a) (k : FloatsHeld a) (s : List ℕ) where
+  -- bytes and frames by the formula are those that are made
+  counted : scannedFrom (meterOf a) s ≡ scannedAs (length (output (listed s) a)) (madeBy (listed s) a) s
+  counted = ap₂ (λ (n f : ℕ). scannedAs n f s) (bytes-needed (listed s) a h k) (sym (frames-made (listed s) a h k))
 
--- a scan's answer within the room, and whether it is done
-module _ (s out : List ℕ) (scanned within : LogAnswer) (e : scanned ≡ scannedOf s) (w : within ≡ withinRoom (length out) scanned) where
-  answer-is : within ≡ answerOf s (length out)
-  answer-is = w ∙ ap (withinRoom (length out)) (e ∙ counted s)
+  -- all that is said of the scan's answer within a room
+  pub answered : (room : ℕ) {scanned within : LogAnswer} → scanned ≡ scannedFrom (meterOf a) s → within ≡ withinRoom room scanned
+      → (within ≡ answerOn a s room) × ((refusalOf within ≡ refusedOn a s room) × (returnedOf within ≡ returnedOn a s))
+  answered room {scanned} {within} e w = (is, rw is (log-refuses room (length (output (listed s) a)) (madeBy (listed s) a) s))
+    where
+      is : within ≡ answerOn a s room
+      is = w ∙ ap (withinRoom room) (e ∙ counted)
 
-  -- all that is said of it
-  pub answered : {out' : List ℕ} → out' ≡ outAfter within (bytesOfLog s) out
-      → (within ≡ answerOf s (length out))
-      × ((out' ≡ outAfter within (bytesOfLog s) out) × ((refusalOf within ≡ refusedLog s (length out)) × (returnedOf within ≡ returnedLog s)))
-  answered oe = (answer-is, (oe, rw answer-is (log-refuses (length out) (length (bytesOfLog s)) (framesOfLog s) s)))
+  -- the number returned stays in 48 bits
+  pub answer-packs-on : (room : ℕ) → Packs (answerOn a s room)
+  answer-packs-on room = rw counted at (answer-packs (meterOf a) (stored-held a h k) room s)
 
-  module _ (d : isDone within ≡ true) where
-    done : isDone (answerOf s (length out)) ≡ true
-    done = rw answer-is at d
+-- ---- on any unit: a log that is done has room, and its bytes are put at the front; a refusal leaves the output
+pub room-on : (a : Apu) (s : List ℕ) (room : ℕ) → isDone (answerOn a s room) ≡ true → length (output (listed s) a) ≤ room
+room-on a s room d = done-fits room (length (output (listed s) a)) (madeBy (listed s) a) s d
 
-    pub long : 2 ≤ length s
-    long = done-long (length out) (length (bytesOfLog s)) (framesOfLog s) s done
+module _ (a : Apu) (s out : List ℕ) {answer : LogAnswer} (e : answer ≡ answerOn a s (length out)) where
+  abbrev bytes : List ℕ
+  bytes = output (listed s) a
 
-    pub room : length (bytesOfLog s) ≤ length out
-    room = done-fits (length out) (length (bytesOfLog s)) (framesOfLog s) s done
+  pub room : isDone answer ≡ true → length bytes ≤ length out
+  room d = room-on a s (length out) (rw e at d)
 
-    pub put-out : sets out 0 (bytesOfLog s) ≡ outAfter within (bytesOfLog s) out
-    put-out =
-        rw (zero-add (length (bytesOfLog s))) at (sets-eq (bytesOfLog s) out 0 (rw (zero-add (length (bytesOfLog s))) room))
-        ∙ sym (done-out within (bytesOfLog s) out d)
+  pub put-out : isDone answer ≡ true → sets out 0 bytes ≡ outAfter answer bytes out
+  put-out d = rw (zero-add (length bytes)) at (sets-eq bytes out 0 (rw (zero-add (length bytes)) (room d))) ∙ sym (done-out answer bytes out d)
 
-  pub kept-out : isDone within ≡ false → out ≡ outAfter within (bytesOfLog s) out
-  kept-out d = sym (refused-out within (bytesOfLog s) out d)
+  pub kept-out : isDone answer ≡ false → out ≡ outAfter answer bytes out
+  kept-out d = sym (refused-out answer bytes out d)
 
--- the number returned stays in 48 bits
+  -- all that is said of answer and output, the unit being known by another name
+  pub told-on : {b : Apu} {out' : List ℕ} → a ≡ b → out' ≡ outAfter answer bytes out
+      → (answer ≡ answerOn b s (length out))
+      × ((out' ≡ outAfter answer (output (listed s) b) out) × ((refusalOf answer ≡ refusedOn b s (length out)) × (returnedOf answer ≡ returnedOn b s)))
+  told-on u o = rw (← u) (e, (o, rw e (log-refuses (length out) (length bytes) (madeBy (listed s) a) s)))
+
+-- ---- on the unit that the start byte asks for
 pub played-packs : (s : List ℕ) (room : ℕ) → Packs (answerOf s room)
-played-packs s room = rw (counted s) at (answer-packs room s)
+played-packs s room = let ready = start-ready (getD s 1 0) in answer-packs-on (unitOfStart (getD s 1 0)) (ready .0) (ready .1) s room

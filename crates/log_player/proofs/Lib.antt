@@ -1,6 +1,7 @@
 -- The laws of playing. Assumes nothing.
 pub mod Recorded  -- one record
 pub mod Groups  -- a write to one group
+pub mod Appending  -- one row of records after another
 pub mod Frames  -- how many frames and bytes there are
 pub mod Coming  -- what is to come of a log
 pub mod Reckoning  -- clock records in numbers

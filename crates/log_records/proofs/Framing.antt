@@ -35,6 +35,37 @@ body-fits s at n e = go (leb (length s) at) (ltb (length s - at) 2) (ltb (length
           ltb-false (length s - at - 2) (word s at) z,
         )
 
+-- and its length is what its two bytes say
+pub body-is : (s : List ℕ) (at n : ℕ) → cutAt s at ≡ Body n → word s at ≡ n
+unfolding pick cutAt
+body-is s at n e = go (leb (length s) at) (ltb (length s - at) 2) (ltb (length s - at - 2) (word s at)) e
+  where
+    go : (a b c : Bool) → pick a End (pick b Short (pick c Short (Body (word s at)))) ≡ Body n → word s at ≡ n
+    go true b c h = cc
+    go false true c h = cc
+    go false false true h = cc
+    go false false false h = cc
+
+-- a log ends at its end
+pub end-past : (s : List ℕ) (at : ℕ) → cutAt s at ≡ End → length s ≤ at
+unfolding pick cutAt
+end-past s at e = go (leb (length s) at) (ltb (length s - at) 2) (ltb (length s - at - 2) (word s at)) refl e
+  where
+    go : (a b c : Bool) → leb (length s) at ≡ a → pick a End (pick b Short (pick c Short (Body (word s at)))) ≡ End → length s ≤ at
+    go true b c x h = leb-true (length s) at x
+    go false true c x h = let f : _≡_ {A = ℕ} 0 1 = cc in omega arith
+    go false false true x h = let f : _≡_ {A = ℕ} 0 1 = cc in omega arith
+    go false false false x h = let f : _≡_ {A = ℕ} 0 1 = cc in omega arith
+
+-- two bytes and a body of the length that they say
+pub some-cut : (s : List ℕ) (at n : ℕ) → at + 2 + n ≤ length s → word s at ≡ n → cutAt s at ≡ Body n
+unfolding cutAt pick
+some-cut s at n h e =
+    let here : at < length s = omega arith in
+    let two : 2 ≤ length s - at = omega arith in
+    let rest : n ≤ length s - at - 2 = omega arith in
+    rw (lt-leb (length s) at here, le-ltb (length s - at) 2 two, e, le-ltb (length s - at - 2) n rest)
+
 -- the records from a place on
 module _ (s : List ℕ) (at : ℕ) where
   pub at-end : cutAt s at ≡ End → recordsFrom s at ≡ done
@@ -63,14 +94,6 @@ pub record Stands (s : List ℕ) (at : ℕ) (c : Clocks) : Type 0 where
   pub few : c .count ≤ 16384
   pub is : recordsFrom s at ≡ item at (Clock (c .double) (c .divider) (c .count)) (recordsFrom s (at + 7))
 
-five-cut : (s : List ℕ) (at : ℕ) → at + 7 ≤ length s → word s at ≡ 5 → cutAt s at ≡ Body 5
-unfolding cutAt pick
-five-cut s at h e =
-    let here : at < length s = omega arith in
-    let two : 2 ≤ length s - at = omega arith in
-    let five : 5 ≤ length s - at - 2 = omega arith in
-    rw (lt-leb (length s) at here, le-ltb (length s - at) 2 two, e, le-ltb (length s - at - 2) 5 five)
-
 pub clocks-stand : (s : List ℕ) (at : ℕ) → clocksAt s at .right ≡ true → Stands s at (clocksAt s at)
 unfolding clocksAt pick
 clocks-stand s at = go (leb (at + 7) (length s)) (eqb (word s at) 5) refl refl
@@ -91,7 +114,7 @@ clocks-stand s at = go (leb (at + 7) (length s)) (eqb (word s at) 5) refl refl
           some = few .0;
           few = few .1;
           is =
-              at-body s at 5 (five-cut s at fits (eqb-true (word s at) 5 y))
+              at-body s at 5 (some-cut s at 5 (omega arith) (eqb-true (word s at) 5 y))
               ∙ ap₂ (λ (r : Record) (n : ℕ). item at r (recordsFrom s n)) (clock-is (judgeOf body) e) next;
         }
     go true false x y e = let z : _≡_ {A = ℕ} 0 1 = cc in absurd (omega arith)

@@ -22,7 +22,10 @@ use Rattle.log_records.specs.Judge.{word, writeOf, readOf, clockOf, pcmOf, judg
 use Rattle.log_records.specs.Records.{Parsed, cutAt, bodyAt, grow, parse, recordsFrom, unrolled, listed}
 use Rattle.log_scan.specs.Sums.{asks, halvesOf, readBytesOf, sumOf}
 use Rattle.log_scan.specs.Scan.{orMark, wrongMark, wrongIn, summed}
-use Rattle.log_scan.specs.Answers.{refusalOf, returnedOf, bytesBy, orWrong, scannedAs, scannedOf, withinRoom, Small}
+use Rattle.log_scan.specs.Answers.{refusalOf, returnedOf, bytesBy, orWrong, scannedAs, scannedFrom, withinRoom, Small}
+use Rattle.clocks.specs.Calls.{K}
+use Rattle.clocks.specs.Metered.{Held}
+use Rattle.clocks.specs.declared.meter.Meter.{Meter}
 use Rattle.clocks.proofs.Totals.{frames-le}
 use Rattle.log_records.proofs.Framing.{body-fits}
 
@@ -108,8 +111,8 @@ module _ (s : List ℕ) (h : length s ≤ 65536) where
   pub count-low : length (listed s) ≤ 65536
   count-low = rw (← each-one (listed s)) (records-low (λ r. 1) 1 (λ b. le-refl 1) s h)
 
-  bytes-low : bytesBy (summed (listed s)) < 281474976710656
-  bytes-low = let f = frames-le (sumOf halvesOf (listed s)) in omega (arith, halves-low, read-bytes-low)
+  bytes-low : (m : Meter) → Held K m → bytesBy m (summed (listed s)) < 281474976710656
+  bytes-low m k = let f = frames-le m (sumOf halvesOf (listed s)) k in omega (arith, halves-low, read-bytes-low)
 
   pub small : Small (summed (listed s))
   small = record { halves = omega (arith, halves-low); «read_bytes» = omega (arith, read-bytes-low) }
@@ -174,16 +177,16 @@ wrong-packs : (top : ℕ) (m : Mark) (a : LogAnswer) → top ≤ 65536 → Insid
 wrong-packs top Clear a t i h = h
 wrong-packs top (At p) a t i h = omega arith
 
-scanned-packs : (s : List ℕ) → Packs (scannedOf s)
+scanned-packs : (m : Meter) → Held K m → (s : List ℕ) → Packs (scannedFrom m s)
 unfolding scannedAs recordsFrom
-scanned-packs s =
+scanned-packs m k s =
     pick-holds Packs _ _ _ (λ _. omega arith)
     (λ e.
     let h : length s ≤ 65536 = ltb-false 65536 (length s) e in
-    both-ways Packs _ (omega arith) (wrong-packs (length s) (wrongIn (recordsFrom s 2)) _ h (parsed-inside (length s) s 2) (bytes-low s h)))
+    both-ways Packs _ (omega arith) (wrong-packs (length s) (wrongIn (recordsFrom s 2)) _ h (parsed-inside (length s) s 2) (bytes-low s h m k)))
 
-pub answer-packs : (room : ℕ) (s : List ℕ) → Packs (withinRoom room (scannedOf s))
-answer-packs room s = room-packs room (scannedOf s) (scanned-packs s)
+pub answer-packs : (m : Meter) → Held K m → (room : ℕ) (s : List ℕ) → Packs (withinRoom room (scannedFrom m s))
+answer-packs m k room s = room-packs room (scannedFrom m s) (scanned-packs m k s)
 
 pub refusal-le : (a : LogAnswer) → refusalOf a ≤ 6
 refusal-le (Done w f k r) = omega arith

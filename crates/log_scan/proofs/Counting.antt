@@ -1,18 +1,18 @@
 -- What a row of records has is what its first record has, joined to what the others have: so the scan may join as it goes. Assumes nothing.
 use Prim.Native.Nat.{ℕ, suc, _+_, _≤_, _<_}
 use mathlib.Core.Path.{_≡_, refl, sym, _∙_, ap}
-use mathlib.Core.List.{List}
+use mathlib.Core.List.{List, [], _∷_, _++_}
 use native.Mathlib.Omega.{arith}
 use native.Mathlib.Nat.{add-assoc, add-zero, zero-add}
-use lib.ListN.{length}
+use lib.ListN.{length, length-append}
 use Rattle.log_records.specs.declared.judge.Record.{Record}
 use Rattle.log_records.specs.declared.cut.Cut.the-variants.{End, Short}
 use Rattle.log_scan.specs.declared.scan.Mark.{Mark}
 use Rattle.log_scan.specs.declared.scan.Mark.the-variants.{Clear, At}
 use Rattle.log_scan.specs.declared.scan.Found.{Found}
 use Rattle.log_records.specs.Records.{Parsed, item, cutAt, recordsFrom, unrolled}
-use Rattle.log_scan.specs.Sums.{sumOf}
-use Rattle.log_scan.specs.Scan.{Fits, orMark, wrongIn, both, nothing, foundIn, foundAll}
+use Rattle.log_scan.specs.Sums.{asks, halvesOf, readBytesOf, sumOf}
+use Rattle.log_scan.specs.Scan.{Fits, orMark, wrongIn, summed, added, both, nothing, foundIn, foundAll}
 use Rattle.log_records.proofs.Framing.{at-end, at-short}
 use Rattle.log_scan.proofs.Bounds.{calls-low, halves-low, read-bytes-low, count-low}
 
@@ -42,6 +42,15 @@ none-both a = rw (zero-add (a .sums .records), zero-add (a .sums .calls), zero-a
 
 one-more : (n : ℕ) → 1 + n ≡ suc n
 one-more n = omega arith
+
+-- one row of records after another
+sum-append : (f : Record → ℕ) (xs ys : List Record) → sumOf f (xs ++ ys) ≡ sumOf f xs + sumOf f ys
+unfolding sumOf
+sum-append f [] ys = sym (zero-add (sumOf f ys))
+sum-append f (r ∷ xs) ys = ap (λ (n : ℕ). f r + n) (sum-append f xs ys) ∙ sym (add-assoc (f r) (sumOf f xs) (sumOf f ys))
+
+pub summed-append : (xs ys : List Record) → summed (xs ++ ys) ≡ added (summed xs) (summed ys)
+summed-append xs ys = rw (length-append xs ys, sum-append asks xs ys, sum-append halvesOf xs ys, sum-append readBytesOf xs ys)
 
 -- THE LAW
 found-item : (p : ℕ) (r : Record) (rest : Parsed) → foundAll (item p r rest) ≡ both (foundIn p r) (foundAll rest)

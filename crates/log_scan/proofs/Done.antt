@@ -1,4 +1,5 @@
--- What is known of a log that is played: it has its first two bytes, and the output has room; a refusal leaves the output. Assumes nothing.
+-- What is known of a log that is played: it has a good start of two bytes and no wrong record, and the output has room; a refusal leaves the output.
+-- Assumes nothing.
 use Prim.Native.Nat.{ℕ, _≤_}
 use mathlib.Core.Path.{_≡_, refl}
 use mathlib.Core.Bool.{Bool, true, false}
@@ -76,6 +77,29 @@ module _ (room : ℕ) where
     done-fits =
         pick-holds Fits _ _ _ (λ _ d. never _ _ d)
         (λ _. pick-holds Fits _ _ _ (λ _ d. never _ _ d) (λ e. marked (wrongIn (recordsFrom s 2))))
+
+    -- and its start was good
+    abbrev Starts : LogAnswer → Type 0
+    Starts a = isDone (withinRoom room a) ≡ true → badStart s ≡ false
+
+    pub done-start : Starts (scannedAs n f s)
+    unfolding scannedAs withinRoom
+    done-start = pick-holds Starts _ _ _ (λ _ d. cc) (λ _. pick-holds Starts _ _ _ (λ _ d. cc) (λ e _. e))
+
+    -- and nothing was wrong in it
+    abbrev Clears : LogAnswer → Type 0
+    Clears a = isDone (withinRoom room a) ≡ true → wrongIn (recordsFrom s 2) ≡ Clear
+
+    clear : (m : Mark) → wrongIn (recordsFrom s 2) ≡ m → Clears (orWrong m (doneAs n f (summed (listed s))))
+    unfolding withinRoom
+    clear Clear e d = e
+    clear (At p) e d = cc
+
+    pub done-clear : Clears (scannedAs n f s)
+    unfolding scannedAs withinRoom
+    done-clear =
+        pick-holds Clears _ _ _ (λ _ d. cc)
+        (λ _. pick-holds Clears _ _ _ (λ _ d. cc) (λ _. clear (wrongIn (recordsFrom s 2)) refl))
 
 -- the output after it
 pub done-out : (a : LogAnswer) (bytes out : List ℕ) → isDone a ≡ true → outAfter a bytes out ≡ bytes ++ drop (length bytes) out

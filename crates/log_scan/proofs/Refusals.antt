@@ -5,10 +5,11 @@ use mathlib.Core.Bool.{Bool, true, false, _&&_}
 use mathlib.Core.List.{List}
 use lib.Dec.{ltb}
 use Rattle.ground.specs.Pick.{pick}
+use Rattle.clocks.specs.declared.meter.Meter.{Meter}
 use Rattle.log_records.specs.Records.{recordsFrom, listed}
 use Rattle.log_scan.specs.Scan.{wrongIn, summed}
 use Rattle.log_scan.specs.Answers.{refusalOf, returnedOf, isDone, tooLong, badStart, refusedFor, returnedFor, refusedWithin, isPlace, placeIn}
-use Rattle.log_scan.specs.Answers.{bytesBy, doneAs, orWrong, scannedAs, scannedOf, withinRoom}
+use Rattle.log_scan.specs.Answers.{bytesBy, doneAs, orWrong, scannedAs, scannedFrom, withinRoom}
 use Rattle.log_scan.specs.declared.answer.LogAnswer.{LogAnswer}
 use Rattle.log_scan.specs.declared.answer.LogAnswer.the-variants.{Done, TooLong, BadStart, WrongRecord, TooShort}
 use Rattle.log_scan.specs.declared.scan.Sums.{Sums}
@@ -73,13 +74,13 @@ within-refusal room (WrongRecord p) = refl
 within-refusal room (TooShort n) = refl
 
 -- ---- of the scan's answer, of that within a room, and of both
-pub scan-refuses : (s : List ℕ) {r : LogAnswer} → r ≡ scannedOf s
-    → (r ≡ scannedOf s) × ((refusalOf r ≡ refusedFor s) × (returnedOf r ≡ returnedFor (bytesBy (summed (listed s))) s))
+pub scan-refuses : (m : Meter) (s : List ℕ) {r : LogAnswer} → r ≡ scannedFrom m s
+    → (r ≡ scannedFrom m s) × ((refusalOf r ≡ refusedFor s) × (returnedOf r ≡ returnedFor (bytesBy m (summed (listed s))) s))
 unfolding scannedAs refusedFor returnedFor
-scan-refuses s e =
+scan-refuses m s e =
     let sums = summed (listed s) in
-    let m = wrongIn (recordsFrom s 2) in
-    (e, rw e (refusal _ _ sums (tooLong s) (badStart s) m, number _ _ sums (tooLong s) (badStart s) m))
+    let w = wrongIn (recordsFrom s 2) in
+    (e, rw e (refusal _ _ sums (tooLong s) (badStart s) w, number _ _ sums (tooLong s) (badStart s) w))
 
 pub within-refuses : (room : ℕ) (a : LogAnswer) {r : LogAnswer} → r ≡ withinRoom room a
     → (r ≡ withinRoom room a) × ((refusalOf r ≡ pick (isDone a && ltb room (returnedOf a)) 6 (refusalOf a)) × (returnedOf r ≡ returnedOf a))

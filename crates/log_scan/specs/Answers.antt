@@ -6,7 +6,9 @@ use lib.ListN.{length, getD, drop}
 use lib.Dec.{ltb, leb, eqb}
 use lib.Seq.{sets}
 use Rattle.ground.specs.Pick.{pick}
-use Rattle.clocks.specs.Metered.{framesOf}
+use Rattle.clocks.specs.Calls.{K}
+use Rattle.clocks.specs.Metered.{framesFrom}
+use Rattle.clocks.specs.declared.meter.Meter.{Meter}
 use Rattle.log_scan.specs.declared.answer.LogAnswer.{LogAnswer}
 use Rattle.log_scan.specs.declared.answer.LogAnswer.the-variants.{Done, TooLong, BadStart, WrongRecord, TooShort}
 use Rattle.log_scan.specs.declared.scan.Mark.{Mark}
@@ -86,17 +88,21 @@ refusedWithin room needed s = firstRefused s (pick (ltb room needed) 6 0)
 
 -- ---- what a log is answered
 
--- the bytes that playing makes: those of frames and of reads
-abbrev pub bytesBy : Sums → ℕ
-bytesBy sums = framesOf (sums .halves) * frameLength + sums .«read_bytes»
+-- the frames that playing makes on a unit with a stored half-clock and remainder
+abbrev pub framesBy : Meter → Sums → ℕ
+framesBy m sums = framesFrom 48 K m (sums .halves)
+
+-- and the bytes: those of frames and of reads
+abbrev pub bytesBy : Meter → Sums → ℕ
+bytesBy m sums = framesBy m sums * frameLength + sums .«read_bytes»
 
 -- "The answer carries bytes written, frames, and the number of clock calls that the records asked for", and the records
 abbrev pub doneAs : ℕ → ℕ → Sums → LogAnswer
 doneAs written frames sums = Done written frames (sums .calls) (sums .records)
 
 -- with bytes and frames by the formula
-abbrev pub doneBy : Sums → LogAnswer
-doneBy sums = doneAs (bytesBy sums) (framesOf (sums .halves)) sums
+abbrev pub doneBy : Meter → Sums → LogAnswer
+doneBy m sums = doneAs (bytesBy m sums) (framesBy m sums) sums
 
 -- 5: "a wrong record", or what is said of good ones
 abbrev pub orWrong : Mark → LogAnswer → LogAnswer
@@ -111,8 +117,8 @@ scannedAs written frames s =
     (orWrong (wrongIn (recordsFrom s 2)) (doneAs written frames (summed (listed s)))))
 
 -- with bytes and frames by the formula
-abbrev pub scannedOf : List ℕ → LogAnswer
-scannedOf s = let sums = summed (listed s) in scannedAs (bytesBy sums) (framesOf (sums .halves)) s
+abbrev pub scannedFrom : Meter → List ℕ → LogAnswer
+scannedFrom m s = let sums = summed (listed s) in scannedAs (bytesBy m sums) (framesBy m sums) s
 
 -- 6: "output shorter than needed"
 unfoldable pub withinRoom : ℕ → LogAnswer → LogAnswer

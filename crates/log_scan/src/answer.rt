@@ -3,15 +3,18 @@ ghost use mathlib.Core.Path.{_≡_};
 ghost use mathlib.Core.Bool.{_&&_};
 ghost use lib.Dec.{ltb};
 ghost use Rattle.ground.specs.Pick.{pick};
+ghost use Rattle.clocks.specs.Calls.{K};
+ghost use Rattle.clocks.specs.Metered.{Held};
 ghost use Rattle.log_records.specs.Records.{listed};
 ghost use Rattle.log_scan.specs.Scan.{summed};
 ghost use Rattle.log_scan.specs.Answers.{badStart, isDone, refusalOf, returnedOf, refusedFor, returnedFor, countsAfter};
-ghost use Rattle.log_scan.specs.Answers.{Small, bytesBy, doneBy, scannedOf, withinRoom};
+ghost use Rattle.log_scan.specs.Answers.{Small, bytesBy, doneBy, scannedFrom, withinRoom};
 use crate::scan::Found;
 use crate::scan::Mark;
 use crate::scan::Sums;
 use crate::scan::scan_list;
-use clocks::meter::frames_of;
+use clocks::meter::Meter;
+use clocks::meter::frames_from;
 use log_items::items::FRAME_BYTES;
 
 // What playing a log answers: what was done, or why it was refused.
@@ -43,11 +46,12 @@ fn bad_start(log: &[u8]) -> bool
 }
 
 // What good records are answered: 41 bytes for a frame, and those of reads.
-fn counted(sums: Sums) -> LogAnswer
+fn counted(meter: Meter, sums: Sums) -> LogAnswer
+    requires { ⌜ Held K meter ⌝ }
     requires { ⌜ Small sums ⌝ }
-    ensures { λ r. ⌜ r ≡ doneBy sums ⌝ }
+    ensures { λ r. ⌜ r ≡ doneBy meter sums ⌝ }
 {
-    let frames = frames_of(sums.halves);
+    let frames = frames_from(meter, sums.halves);
     LogAnswer::Done {
         written: frames * FRAME_BYTES as u64 + sums.read_bytes,
         frames,
@@ -56,11 +60,13 @@ fn counted(sums: Sums) -> LogAnswer
     }
 }
 
-// What a log is answered where there is room enough: refusals 3, 4 and 5 in that order, or what playing it makes.
-pub fn scan(log: &[u8]) -> LogAnswer
-    ensures { λ r. ⌜ r ≡ scannedOf (now (log .entry)) ⌝ }
+// What a log is answered where there is room enough: refusals 3, 4 and 5 in that order, or what playing it makes on a unit with that stored half-clock
+// and remainder.
+pub fn scan_from(log: &[u8], meter: Meter) -> LogAnswer
+    requires { ⌜ Held K meter ⌝ }
+    ensures { λ r. ⌜ r ≡ scannedFrom meter (now (log .entry)) ⌝ }
     ensures { λ r. ⌜ (refusalOf r ≡ refusedFor (now (log .entry)))
-        × (returnedOf r ≡ returnedFor (bytesBy (summed (listed (now (log .entry))))) (now (log .entry))) ⌝ }
+        × (returnedOf r ≡ returnedFor (bytesBy meter (summed (listed (now (log .entry))))) (now (log .entry))) ⌝ }
 {
     let long = 65536 < log.len();
     let bad = bad_start(log);
@@ -73,7 +79,7 @@ pub fn scan(log: &[u8]) -> LogAnswer
     let found = scan_list(log);
     let wrong = found.wrong;
     match wrong {
-        Mark::Clear => counted(found.sums),
+        Mark::Clear => counted(meter, found.sums),
         Mark::At { place } => LogAnswer::WrongRecord {
             place: place as u64,
         },

@@ -1,30 +1,29 @@
--- A log that is not refused has its first two bytes. Assumes nothing.
+-- The unit of the start byte is in its ranges, and so is what it has stored. Assumes nothing.
 use borrow.Author.Needs.{needs}
-use native.Mathlib.Omega.{arith}
-use mathlib.Core.Path.{_≡_}
-use mathlib.Core.Bool.{true}
-use denote.Ref.{now}
-use Rattle.log_scan.specs.Answers.{isDone, scannedOf}
-use Rattle.log_scan.proofs.Done.{scanned-long}
+use Rattle.apu_clock.proofs.Demand3.{stored-held}
 use Rattle.player.proofs.run.Statement.{statement}
 use Rattle.player.proofs.run.Tie as tie
 
-scan-requires : tie.Need-scan-requires
-scan-requires c κs =
+start-byte-requires : tie.Need-start-byte-requires
+start-byte-requires c κs =
     search needs
+
+start-requires : tie.Need-start-requires
+start-requires c κs =
+    search needs
+
+meter-of-requires : tie.Need-meter-of-requires
+meter-of-requires c κs =
+    c .start .ensures .1
+
+scan-from-requires : tie.Need-scan-from-requires
+scan-from-requires c κs =
+    let ranges = c .before .start .ensures .1 in
+    rw (c .meter-of .ensures) (stored-held _ (ranges .0) (ranges .1))
 
 enum-known-answer : tie.Need-enum-known-answer
 enum-known-answer c =
     search needs
-
-shared-slice-read-show-log : tie.Need-shared-slice-read-show-log
-shared-slice-read-show-log c =
-    let done = c .before .before in
-    let scanned = done .before .before in
-    let log = now (scanned .before .before .args .log) in
-    let d : isDone (scannedOf log) ≡ true = rw (← (scanned .scan .ensures .0), done .answer .given .1) in
-    let l = scanned-long _ _ log d in
-    omega (arith, l)
 
 show-log-requires : tie.Need-show-log-requires
 show-log-requires c κs =
@@ -122,9 +121,11 @@ pub run-spec : {M : Type 1} → statement M
 run-spec =
     tie.close
     (tie.spec
-    scan-requires
+    start-byte-requires
+    start-requires
+    meter-of-requires
+    scan-from-requires
     enum-known-answer
-    shared-slice-read-show-log
     show-log-requires
     print-end-requires
     enum-told

@@ -2,22 +2,18 @@
 use borrow.Author.Needs.{needs}
 use native.Mathlib.Omega.{arith}
 use Rattle.clocks.proofs.Totals.{Going, begun, held, turn, few, ended}
-use Rattle.clocks.proofs.meter.frames_of.Statement.{statement}
-use Rattle.clocks.proofs.meter.frames_of.Tie as tie
+use Rattle.clocks.proofs.meter.frames_from.Statement.{statement}
+use Rattle.clocks.proofs.meter.frames_from.Tie as tie
 
 abbrev Inv-loop : tie.InvT-loop
-Inv-loop halves meter₀ frames₀ left₀ meter frames left = Going halves left meter frames
+Inv-loop halves at₀ frames₀ left₀ at frames left = Going at₀ halves left at frames
 
 abbrev μ-loop : tie.MeasureT-loop
-μ-loop halves meter₀ frames₀ left₀ meter frames left = left
-
-new-requires : tie.Need-new-requires Inv-loop μ-loop
-new-requires c κs =
-    search needs
+μ-loop halves at₀ frames₀ left₀ at frames left = left
 
 loop-holds : tie.Need-loop-holds Inv-loop μ-loop
 loop-holds c =
-    rw (c .new .ensures) (begun _)
+    begun _ _ (c .pre)
 
 at-most-requires : tie.Need-at-most-requires Inv-loop μ-loop
 at-most-requires c κs =
@@ -33,9 +29,9 @@ add-frames c =
     let calls = c .before .before .calls in
     let at-most = c .before .before .before .at-most in
     let loop = c .before .before .before .before .before .loop in
-    let fits = c .before .before .before .before .before .before .before .fits in
+    let start = c .before .before .before .before .before .before in
     let made = few (loop .inv) (at-most .result) (omega (arith, at-most .ensures)) (calls .result) (calls .ensures) in
-    omega (arith, made, fits .halves)
+    omega (arith, made, start .fits .halves)
 
 sub-left : tie.Need-sub-left Inv-loop μ-loop
 sub-left c =
@@ -59,13 +55,12 @@ returns c =
     let loop = c .before .loop in
     ended (loop .inv) (omega arith)
 
-pub frames-of-spec : {M : Type 1} → statement M
-frames-of-spec =
+pub frames-from-spec : {M : Type 1} → statement M
+frames-from-spec =
     tie.close
     (tie.spec
     Inv-loop
     μ-loop
-    new-requires
     loop-holds
     at-most-requires
     calls-requires

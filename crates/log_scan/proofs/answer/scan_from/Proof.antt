@@ -7,16 +7,16 @@ use Rattle.log_scan.specs.declared.scan.Found.{Found}
 use Rattle.log_scan.proofs.Bounds.{small}
 use Rattle.log_scan.proofs.Refusals.{scan-refuses}
 use borrow.Author.Tests.{ltb-false}
-use Rattle.log_scan.proofs.answer.scan.Statement.{statement}
-use Rattle.log_scan.proofs.answer.scan.Tie as tie
+use Rattle.log_scan.proofs.answer.scan_from.Statement.{statement}
+use Rattle.log_scan.proofs.answer.scan_from.Tie as tie
 
 too-long : tie.Need-returns
 unfolding pick scannedAs
-too-long c = scan-refuses _ (rw (c .if1 .taken))
+too-long c = scan-refuses _ _ (rw (c .if1 .taken))
 
 bad-start : tie.Need-returns-2
 unfolding pick scannedAs
-bad-start c = scan-refuses _ (rw (c .before .if1 .left, ← (c .before .before .bad-start .ensures), c .if2 .taken))
+bad-start c = scan-refuses _ _ (rw (c .before .if1 .left, ← (c .before .before .bad-start .ensures), c .if2 .taken))
 
 good : tie.Need-returns-3
 unfolding pick scannedAs
@@ -26,7 +26,7 @@ good c =
     let short = start .before in
     let first = ap (λ (f : Found). f .wrong) (listed .scan-list .ensures) in
     let clear = sym first ∙ c .before .enum-told .given .1 in
-    scan-refuses _
+    scan-refuses _ _
     (rw (short .if1 .left, ← (short .before .bad-start .ensures), start .if2 .left, clear) (rw (listed .scan-list .ensures) at (c .counted .ensures)))
 
 wrong : tie.Need-returns-4
@@ -37,10 +37,16 @@ wrong c =
     let short = start .before in
     let first = ap (λ (f : Found). f .wrong) (listed .scan-list .ensures) in
     let there = sym first ∙ c .before .wrong .given .1 in
-    scan-refuses _ (rw (short .if1 .left, ← (short .before .bad-start .ensures), start .if2 .left, there))
+    scan-refuses _ _ (rw (short .if1 .left, ← (short .before .bad-start .ensures), start .if2 .left, there))
 
-pub scan-spec : {M : Type 1} → statement M
-scan-spec =
+meter-and-sums : tie.Need-counted-requires
+meter-and-sums c κs =
+    let listed = c .before .before in
+    let short = listed .before .before in
+    (short .before .before .before .pre, rw (listed .scan-list .ensures) (small _ (ltb-false _ _ (short .if1 .left))))
+
+pub scan-from-spec : {M : Type 1} → statement M
+scan-from-spec =
     tie.close
     (tie.spec
     (λ c κs. search needs)
@@ -48,7 +54,7 @@ scan-spec =
     bad-start
     (λ c κs. ltb-false _ _ (c .before .if1 .left))
     (λ c. search needs)
-    (λ c κs. rw (c .before .before .scan-list .ensures) (small _ (ltb-false _ _ (c .before .before .before .before .if1 .left))))
+    meter-and-sums
     (λ c. search needs)
     good
     wrong)
