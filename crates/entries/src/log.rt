@@ -4,18 +4,19 @@ ghost use lib.ListN.{length};
 ghost use Prim.Native.Nat.{_<_, _^_};
 ghost use Rattle.log_scan.specs.Answers.{returnedOf, packed, outAfter, countsAfter};
 ghost use Rattle.log_player.specs.Logs.{bytesOfLog, answerOf};
+use crate::pack::packed;
 use log_player::log::play_log;
 use log_scan::answer::LogAnswer;
 use log_scan::answer::put_counts;
 use log_scan::answer::refusal;
 use log_scan::answer::returned;
 
-// An answer as one number: refusal × 2^48 + bytes written or number returned.
+// A log's answer as one number.
 fn pack(answer: LogAnswer) -> u64
     requires { ⌜ returnedOf answer < 2 ^ 48 ⌝ }
     ensures { λ r. ⌜ r ≡ packed answer ⌝ }
 {
-    refusal(answer) * 0x1_0000_0000_0000 + returned(answer)
+    packed(refusal(answer), returned(answer))
 }
 
 // Plays a log into the output, or refuses it and writes nothing.

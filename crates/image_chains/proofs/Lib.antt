@@ -1,0 +1,2 @@
+-- The laws of chains. Assumes nothing.
+pub mod Hold

@@ -1,0 +1,2 @@
+-- What a chain of logs comes to. Assumes nothing.
+pub mod Chains
