@@ -100,6 +100,38 @@ uint64_t besticoro_play_access_log_counted(const uint8_t *log, size_t log_length
     return answer;
 }
 
+/* The unit's floats are patterns in an image: what reads and writes them stands in the default too. */
+uint64_t besticoro_make_image(uint8_t start, uint8_t *image, size_t image_length) {
+    struct part lent[] = {WRITTEN(image, image_length)};
+    if (!lend(lent, 1)) return REFUSED;
+    floats host = enter();
+    uint64_t answer = make_image(start, lent[0].at, image_length);
+    leave(host);
+    return answer;
+}
+
+uint64_t besticoro_play_from_image(const uint8_t *image, size_t image_length, const uint8_t *log, size_t log_length,
+    uint8_t *out, size_t out_length, uint8_t *after, size_t after_length) {
+    struct part lent[] = {READ(image, image_length), READ(log, log_length), WRITTEN(out, out_length), WRITTEN(after, after_length)};
+    if (!lend(lent, 4)) return REFUSED;
+    floats host = enter();
+    uint64_t answer = play_from_image(lent[0].at, image_length, lent[1].at, log_length, lent[2].at, out_length, lent[3].at, after_length);
+    leave(host);
+    return answer;
+}
+
+uint64_t besticoro_play_from_image_counted(const uint8_t *image, size_t image_length, const uint8_t *log, size_t log_length,
+    uint8_t *out, size_t out_length, uint8_t *after, size_t after_length, uint64_t *counts, size_t counts_length) {
+    struct part lent[] = {READ(image, image_length), READ(log, log_length), WRITTEN(out, out_length), WRITTEN(after, after_length),
+        WRITTEN(counts, counts_length)};
+    if (!lend(lent, 5)) return REFUSED;
+    floats host = enter();
+    uint64_t answer = play_from_image_counted(lent[0].at, image_length, lent[1].at, log_length, lent[2].at, out_length, lent[3].at, after_length,
+        lent[4].at, counts_length);
+    leave(host);
+    return answer;
+}
+
 /* The lent envelope has no floats. */
 static int usable(const struct besticoro_envelope *e) {
     return e != NULL && e->sweep_increase <= 1 && e->envelope_can_run <= 1;

@@ -8,19 +8,22 @@
  *
  *   refusal  when, exactly                                            number
  *   0        the log was played                                       bytes written to the front of out
+ *            an image was made                                        bytes written to the front of image: 164
  *   3        the log is longer than 65,536 bytes                      0
  *   4        it is under 2 bytes, its byte 0 (the version) is not 1,  0
  *            or its byte 1 (the start) is above 3
  *   5        a record is wrong or cut short                           place in the log of the first such record's
  *                                                                     first length byte
  *   6        out is shorter than the bytes needed                     the bytes needed
+ *   7        the image is not one that is taken                       0
+ *   8        the place for an image is shorter than 164 bytes         the bytes needed: 164
  *   0xFFFF   the memory lent cannot be lent (besticoro_ names only)   0
  *
- * 0xFFFF is tried first, then 3 to 6 in that order. With any refusal nothing that was lent is touched.
+ * 0xFFFF is tried first, then 7, then 3 to 6 in that order, then 8. With any refusal nothing that was lent is touched.
  *
- * WHAT IS LENT is memory as a pointer and a length, for the time of the call. log is read and never written; out and counts are
- * written, and nothing else is. Bytes of out past those written stay as they were. No memory is allocated and nothing is kept, so
- * any number of threads may play at once. Every call ends.
+ * WHAT IS LENT is memory as a pointer and a length, for the time of the call. log and the image played from are read and never
+ * written; out, after, counts and the image made are written, and nothing else is. Bytes past those written stay as they were. No
+ * memory is allocated and nothing is kept, so any number of threads may play at once. Every call ends.
  *
  * The bytes that an output needs: play into no output (out_length 0) and take the number of refusal 6; the answer 0 means none.
  * That costs by the log's records, not by its clock calls. No log needs more than 264,491,123 bytes.
@@ -29,6 +32,12 @@
  *   0x46  a frame: ten f32 bit patterns, high byte first, right and left of pulse 1, pulse 2, wave, noise, and their sum
  *   0x52  a read: the byte read
  *   0x50  both PCM reads: two bytes
+ *
+ * AN IMAGE is a unit's whole state in 164 bytes: byte 0 is its version, 1, bytes 1 and 2 the length of the rest, 00 A1, and then
+ * every field in the order of the original's structures, numbers high byte first. It means the same on every machine. An image is
+ * taken exactly if it is 164 bytes long and every field lies in the range that the rules give it. Every image that an entry made
+ * is taken. To see whether another is, play the log 01 00, which has no records, on it: the answer is 0, and after becomes the
+ * same bytes, or it is refusal 7.
  *
  * WHAT A CALLER OF THE PLAIN NAMES PROMISES. The besticoro_ names see to all of this, or refuse:
  *   - Floats: IEEE arithmetic, rounded to nearest, subnormals kept, no exception trapped. That is how a C program starts; not so
@@ -53,15 +62,18 @@ enum besticoro_refusal {
     BESTICORO_BAD_START = 4,
     BESTICORO_WRONG_RECORD = 5,
     BESTICORO_NO_ROOM = 6,
+    BESTICORO_WRONG_IMAGE = 7,
+    BESTICORO_NO_ROOM_FOR_IMAGE = 8,
     BESTICORO_BAD_MEMORY = 0xFFFF
 };
 
 #define BESTICORO_REFUSAL(answer) ((int)((uint64_t)(answer) >> 48))
 #define BESTICORO_NUMBER(answer) ((uint64_t)(answer) & (((uint64_t)1 << 48) - 1))
 
-/* The longest log that is not refused with 3, and the bytes of a frame in the output. */
+/* The longest log that is not refused with 3, the bytes of a frame in the output, and those of an image. */
 #define BESTICORO_LONGEST_LOG 65536
 #define BESTICORO_FRAME_BYTES 41
+#define BESTICORO_IMAGE_BYTES 164
 
 /* Plays a log into the front of out. Refusals 3 to 6. */
 uint64_t play_access_log(const uint8_t *log, size_t log_length, uint8_t *out, size_t out_length);
@@ -70,15 +82,36 @@ uint64_t play_access_log(const uint8_t *log, size_t log_length, uint8_t *out, si
  * numbers, not bytes. Fewer than 3 are all left alone; of more than 3 the rest is. With a refusal all are. */
 uint64_t play_access_log_counted(const uint8_t *log, size_t log_length, uint8_t *out, size_t out_length, uint64_t *counts, size_t counts_length);
 
+/* Writes the image of a fresh unit to the front of image, by a log's start byte: bit 0 DMG, bit 1 the state after the boot program.
+ * Done, the answer is 164. Refusals 4 (start above 3) and 8, in that order. */
+uint64_t make_image(uint8_t start, uint8_t *image, size_t image_length);
+
+/* Plays a log's records on the unit of an image, which goes on where it was kept. What they make goes to the front of out, and the
+ * image of the unit after them to the front of after. Refusals 7, then 3 to 6, then 8. The log's start byte is judged and not used:
+ * the unit is the image's, so a log that says DMG plays on the image's own model. The bytes needed (6) go by the image too: it says
+ * how far the next frame is. To keep the new image at the place of the old one, copy it there after the call: the two may not overlap. */
+uint64_t play_from_image(const uint8_t *image, size_t image_length, const uint8_t *log, size_t log_length,
+    uint8_t *out, size_t out_length, uint8_t *after, size_t after_length);
+
+/* The same, and counts as in play_access_log_counted: the frames, clock calls and records of this log alone. */
+uint64_t play_from_image_counted(const uint8_t *image, size_t image_length, const uint8_t *log, size_t log_length,
+    uint8_t *out, size_t out_length, uint8_t *after, size_t after_length, uint64_t *counts, size_t counts_length);
+
 /* The guarded twins need nothing of their caller but that lent memory is the caller's own. They give 0xFFFF * 2^48, and do nothing
  * else, for
  *   - a null pointer with a length; with length 0 any pointer will do, null too, and such a part overlaps nothing
  *   - a length of more than PTRDIFF_MAX bytes, or memory that would end past the address space
  *   - counts, with a length, not aligned to 8 bytes
- *   - out overlapping log or counts, or counts overlapping log, by a byte or more; all of the length lent counts
+ *   - a part that is written (out, after, counts, the image made) overlapping any other part that is lent by a byte or more; all
+ *     of the length lent counts. log and the image played from may overlap: both are read
  * The host's float environment is the same before and after: rounding, flush-to-zero, denormals-are-zero, trap masks, flags. */
 uint64_t besticoro_play_access_log(const uint8_t *log, size_t log_length, uint8_t *out, size_t out_length);
 uint64_t besticoro_play_access_log_counted(const uint8_t *log, size_t log_length, uint8_t *out, size_t out_length, uint64_t *counts, size_t counts_length);
+uint64_t besticoro_make_image(uint8_t start, uint8_t *image, size_t image_length);
+uint64_t besticoro_play_from_image(const uint8_t *image, size_t image_length, const uint8_t *log, size_t log_length,
+    uint8_t *out, size_t out_length, uint8_t *after, size_t after_length);
+uint64_t besticoro_play_from_image_counted(const uint8_t *image, size_t image_length, const uint8_t *log, size_t log_length,
+    uint8_t *out, size_t out_length, uint8_t *after, size_t after_length, uint64_t *counts, size_t counts_length);
 
 /* A channel's volume envelope, which the host lends. Its numbers may be any; both flags are 0 or 1. */
 struct besticoro_envelope {

@@ -1,6 +1,6 @@
-// Calls the C entries, by both names, on the logs of host/make-answers, the first family of crates/replay/stdin, and compares with what stands there: refusal and number
-// returned, and for a log that is played its frames, clock calls, records and bytes; no byte past those written, and no count with a refusal, may be touched.
-// Returns 1 where anything differs.
+// Calls the C entries, by both names, on fresh units and on their images, on the logs of host/make-answers, the first family of crates/replay/stdin, and
+// compares with what stands there: refusal and number returned, and for a log that is played its frames, clock calls, records and bytes; no byte past
+// those written, and no count with a refusal, may be touched. Returns 1 where anything differs.
 #include "besticoro.h"
 #include <stdio.h>
 #include <stdlib.h>
@@ -8,6 +8,9 @@
 
 typedef uint64_t plain(const uint8_t *, size_t, uint8_t *, size_t);
 typedef uint64_t counting(const uint8_t *, size_t, uint8_t *, size_t, uint64_t *, size_t);
+typedef uint64_t making(uint8_t, uint8_t *, size_t);
+typedef uint64_t from_image(const uint8_t *, size_t, const uint8_t *, size_t, uint8_t *, size_t, uint8_t *, size_t);
+typedef uint64_t from_image_counting(const uint8_t *, size_t, const uint8_t *, size_t, uint8_t *, size_t, uint8_t *, size_t, uint64_t *, size_t);
 
 enum { FILL = 0xEE, MOST = 65536, HEAD = 24 };
 
@@ -49,6 +52,36 @@ static int same(plain *play, counting *play_counted, const struct head *h, const
         && memcmp(counts, h->counts, counted * sizeof *counts) == 0 && all_filled(counts + counted, counts + 4);
 }
 
+// The same log on the image of the unit that it asks for: answer, output and counts are those; the image after it is written, or with a refusal nothing is.
+static int same_from_image(making *make, from_image *play, from_image_counting *play_counted, const struct head *h, const uint8_t *log, uint8_t *out) {
+    uint8_t image[BESTICORO_IMAGE_BYTES], after[2][BESTICORO_IMAGE_BYTES + 1];
+    uint64_t counts[4], answer = (uint64_t)h->refusal << 48 | h->number;
+    size_t counted = h->refusal ? 0 : 3, kept = h->refusal ? 0 : sizeof image;
+    if (make(h->length > 1 ? log[1] & 3 : 0, image, sizeof image) != sizeof image) return 0;
+    memset(after, FILL, sizeof after);
+    memset(out, FILL, MOST);
+    if (play(image, sizeof image, log, h->length, out, h->room, after[0], sizeof image) != answer || !same_output(h, log + h->length, out)) return 0;
+    memset(out, FILL, MOST);
+    memset(counts, FILL, sizeof counts);
+    if (play_counted(image, sizeof image, log, h->length, out, h->room, after[1], sizeof image + 1, counts, 3) != answer) return 0;
+    return same_output(h, log + h->length, out) && memcmp(counts, h->counts, counted * sizeof *counts) == 0 && all_filled(counts + counted, counts + 4)
+        && memcmp(after[0], after[1], sizeof image) == 0 && all_filled(after[0] + kept, after[1]) && all_filled(after[1] + kept, after + 2);
+}
+
+// Which of several refusals comes first, on images; and that a log without records gives the image back.
+static int image_edges(making *make, from_image *play) {
+    static const uint8_t no_records[2] = {1, 3}, wrong_log[2] = {1, 4}, read[7] = {1, 0, 0, 3, 2, 0xFF, 0x26};
+    uint8_t image[BESTICORO_IMAGE_BYTES + 1] = {0}, after[BESTICORO_IMAGE_BYTES], out[2];
+    const size_t n = BESTICORO_IMAGE_BYTES;
+    memset(after, FILL, sizeof after);
+    memset(out, FILL, sizeof out);
+    return make(4, image, 0) == (uint64_t)4 << 48 && make(1, image, n - 1) == ((uint64_t)8 << 48) + n && make(1, image, n) == n
+        && play(image, n + 1, wrong_log, 2, out, 0, after, 0) == (uint64_t)7 << 48 && play(image, n, wrong_log, 2, out, 0, after, 0) == (uint64_t)4 << 48
+        && play(image, n, read, 7, out, 1, after, 0) == ((uint64_t)6 << 48) + 2 && play(image, n, read, 7, out, 2, after, n - 1) == ((uint64_t)8 << 48) + n
+        && all_filled(after, after + n) && all_filled(out, out + 2) && play(image, n, no_records, 2, out, 2, after, n) == 0 && memcmp(after, image, n) == 0
+        && all_filled(out, out + 2);
+}
+
 // Too few counts are left as they are; a log longer than 65,536 bytes is refusal 3.
 static int edges(plain *play, counting *play_counted, uint8_t *out) {
     static uint8_t long_log[MOST + 1] = {1, 1};
@@ -74,11 +107,15 @@ int main(void) {
             played++;
             int plain_same = same(play_access_log, play_access_log_counted, &h, cases + at, out);
             int guarded_same = same(besticoro_play_access_log, besticoro_play_access_log_counted, &h, cases + at, out);
+            plain_same = plain_same && same_from_image(make_image, play_from_image, play_from_image_counted, &h, cases + at, out);
+            guarded_same = guarded_same
+                && same_from_image(besticoro_make_image, besticoro_play_from_image, besticoro_play_from_image_counted, &h, cases + at, out);
             if (!plain_same || !guarded_same) fprintf(stderr, "case %zu differs\n", played), differ++;
         }
         at += h.length + h.written;
     }
     int right = edges(play_access_log, play_access_log_counted, out) && edges(besticoro_play_access_log, besticoro_play_access_log_counted, out);
+    right = right && image_edges(make_image, play_from_image) && image_edges(besticoro_make_image, besticoro_play_from_image);
     printf("%zu answers, %zu differ; edges %s\n", played, differ, right ? "as they should be" : "WRONG");
     return !(right && played > 0 && differ == 0);
 }

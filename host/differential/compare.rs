@@ -1,11 +1,18 @@
-//! A log played by both, and what differs.
+//! A case played by both, and what differs.
+use crate::generate::Random;
+use crate::image::{Image, IMAGE_BYTES};
 use crate::log::{self, Record, Refused};
-use crate::original;
+use crate::original::{self, Answer};
+use crate::port::{done, filled, refused, Lent, FILL, GUARD};
 use besticoro::{items, Refusal};
 
-const FILL: u8 = 0xA5;
-// Bytes past the output that must stay: room for three frames too many.
-const GUARD: usize = 128;
+/// A log to play: on a fresh unit, or on an image's; and where it is cut into parts that are played through images, the seed of the cuts.
+#[derive(Clone, Default)]
+pub struct Case {
+    pub log: Vec<u8>,
+    pub image: Option<Image>,
+    pub cuts: Option<u64>,
+}
 
 /// What was compared.
 #[derive(Clone, Copy, Default)]
@@ -16,6 +23,7 @@ pub struct Sums {
     pub clocks: u64,
     pub frames: u64,
     pub bytes: u64,
+    pub images: u64,
 }
 
 impl Sums {
@@ -26,6 +34,7 @@ impl Sums {
         self.clocks += other.clocks;
         self.frames += other.frames;
         self.bytes += other.bytes;
+        self.images += other.images;
     }
 }
 
@@ -36,6 +45,8 @@ fn number(refusal: Refusal) -> Refused {
         Refusal::BadStart(_) => Refused(4, 0),
         Refusal::WrongRecord { record, .. } => Refused(5, record as u64),
         Refusal::NoRoom { needed } => Refused(6, needed as u64),
+        Refusal::WrongImage => Refused(7, 0),
+        Refusal::NoRoomForImage { needed } => Refused(8, needed as u64),
         Refusal::BadMemory => Refused(0xFFFF, 0),
         Refusal::Unknown { .. } => Refused(u64::MAX, u64::MAX),
     }
@@ -57,7 +68,7 @@ fn played(log: &[u8], room: usize, space: &mut Vec<u8>) -> (Result<Played, Refus
     let rendered = besticoro::render(log, &mut space[..room]);
     let answer = rendered.map(|r| Played { written: r.bytes().len(), frames: r.frames_made(), clocks: r.clock_calls(), records: r.records() }).map_err(number);
     let written = answer.map_or(0, |done| done.written);
-    (answer, written <= room && space[written.min(room)..].iter().all(|&byte| byte == FILL))
+    (answer, written <= room && filled(&space[written.min(room)..]))
 }
 
 fn expect<T: PartialEq + std::fmt::Debug>(what: &str, ours: T, theirs: T) -> Result<(), String> {
@@ -68,59 +79,186 @@ fn expect<T: PartialEq + std::fmt::Debug>(what: &str, ours: T, theirs: T) -> Res
     }
 }
 
-/// Both sides of one log; `edges` adds outputs one byte short and some longer.
-pub fn compare(log: &[u8], edges: bool, space: &mut Vec<u8>) -> Result<Sums, String> {
-    let answer = match original::play(log) {
-        Err(refused) => {
-            let (ours, stayed) = played(log, 64, space);
-            expect("answer", ours, Err(refused))?;
-            expect("untouched", stayed, true)?;
-            if let Err(Refusal::WrongRecord { record, place, .. }) = besticoro::bytes_needed(log) {
-                expect("place of the offending byte, for the original by log.rs", place, log::offending(log, record))?;
-            }
-            return Ok(Sums { logs: 1, refused: 1, ..Sums::default() });
+fn same_items(ours: &[u8], theirs: &[u8]) -> Result<(), String> {
+    if ours == theirs {
+        return Ok(());
+    }
+    let pairs = items(ours).zip(items(theirs));
+    Err(match pairs.clone().enumerate().find(|(_, (ours, theirs))| ours != theirs) {
+        Some((at, (ours, theirs))) => format!("item {at}:\n  {ours} here\n  {theirs} by the original"),
+        None => format!("only {} items here", pairs.count()),
+    })
+}
+
+fn same_image(what: &str, ours: &[u8], theirs: &Image) -> Result<(), String> {
+    match (0..IMAGE_BYTES).find(|&at| ours[at] != theirs[at]) {
+        None => Ok(()),
+        Some(at) => Err(format!("{what}, byte {at}: {:02X} here, {:02X} by the original", ours[at], theirs[at])),
+    }
+}
+
+// The start byte of a log, or 0.
+fn start_of(log: &[u8]) -> u8 {
+    log.get(1).copied().unwrap_or(0)
+}
+
+/// The image that a case begins with. A fresh one is made by the port and compared with the original's; places of other lengths by turns.
+fn first_image(case: &Case, turn: u64, lent: &mut Lent) -> Result<Image, String> {
+    let start = start_of(&case.log);
+    let fresh = lent.fresh[usize::from(start) % 4];
+    let lengths = [IMAGE_BYTES, [0, IMAGE_BYTES - 1, IMAGE_BYTES + 1, 2 * IMAGE_BYTES][turn as usize % 4]];
+    for place in lengths {
+        let wanted = match (start, place) {
+            (4..=255, _) => refused(4, 0),
+            (_, 0..IMAGE_BYTES) => refused(8, IMAGE_BYTES),
+            _ => done(IMAGE_BYTES),
+        };
+        expect("answer to a start byte", lent.make(start, place), wanted)?;
+        if wanted == done(IMAGE_BYTES) {
+            same_image("the image of a fresh unit", lent.image_after(), &fresh)?;
         }
-        Ok(answer) => answer,
-    };
+    }
+    Ok(case.image.unwrap_or(fresh))
+}
+
+/// An image spoilt, by turns: cut, grown, or another version.
+fn spoilt(image: &Image, turn: u64) -> Vec<u8> {
+    let mut spoilt = image.to_vec();
+    match turn % 5 {
+        0 => spoilt.clear(),
+        1 => spoilt.truncate(IMAGE_BYTES - 1),
+        2 => spoilt.push(0),
+        3 => spoilt.extend(image),
+        _ => spoilt[0] = 2,
+    }
+    spoilt
+}
+
+/// A log that is refused: with its refusal on a fresh unit and on an image, and nothing touched; on a spoilt image with 7.
+fn compare_refused(case: &Case, theirs: Refused, turn: u64, image: &Image, lent: &mut Lent) -> Result<Sums, String> {
+    if case.image.is_none() {
+        expect("answer and untouched", played(&case.log, 64, &mut lent.out), (Err(theirs), true))?;
+        if let Err(Refusal::WrongRecord { record, place, .. }) = besticoro::bytes_needed(&case.log) {
+            expect("place of the offending byte, for the original by log.rs", place, log::offending(&case.log, record))?;
+        }
+    }
+    let place = [0, IMAGE_BYTES - 1, IMAGE_BYTES, IMAGE_BYTES + 1][turn as usize / 4 % 4];
+    let (room, counted) = ([0, 64][turn as usize % 2], turn % 3 > 0);
+    expect("answer on an image", lent.play(image, &case.log, room, place, counted), refused(theirs.0, theirs.1 as usize))?;
+    expect("answer on a wrong image", lent.play(&spoilt(image, turn), &case.log, room, place, counted), refused(7, 0))?;
+    Ok(Sums { logs: 1, refused: 1, images: u64::from(start_of(&case.log) <= 3), ..Sums::default() })
+}
+
+/// A log that is played, on a fresh unit's own entry: answer and bytes; at edges also with longer and shorter outputs.
+fn compare_fresh(log: &[u8], answer: &Answer, edges: bool, space: &mut Vec<u8>) -> Result<(), String> {
     let needed = answer.bytes.len();
     let theirs = Played { written: needed, frames: answer.frames, clocks: answer.clocks, records: answer.records };
     for room in [needed, needed + 7].into_iter().take(1 + usize::from(edges)) {
-        let (ours, stayed) = played(log, room, space);
-        expect("answer", ours, Ok(theirs))?;
-        expect("untouched past the output", stayed, true)?;
-        if space[..needed] != answer.bytes[..] {
-            let pairs = items(&space[..needed]).zip(items(&answer.bytes));
-            return Err(match pairs.clone().enumerate().find(|(_, (ours, theirs))| ours != theirs) {
-                Some((at, (ours, theirs))) => format!("item {at}:\n  {ours} here\n  {theirs} by the original"),
-                None => format!("only {} items here", pairs.count()),
-            });
-        }
+        expect("answer and untouched past the output", played(log, room, space), (Ok(theirs), true))?;
+        same_items(&space[..needed], &answer.bytes)?;
     }
     if edges && needed > 0 {
-        let (ours, stayed) = played(log, needed - 1, space);
-        expect("answer one byte short", ours, Err(Refused(6, needed as u64)))?;
-        expect("untouched one byte short", stayed, true)?;
+        expect("answer and untouched one byte short", played(log, needed - 1, space), (Err(Refused(6, needed as u64)), true))?;
     }
-    Ok(Sums { logs: 1, refused: 0, records: answer.records, clocks: answer.clocks, frames: answer.frames, bytes: needed as u64 })
+    Ok(())
 }
 
-/// A log as small as it can be cut down to while it still differs.
-pub fn shrink(log: &[u8]) -> Vec<u8> {
-    let mut space = Vec::new();
-    let mut differs = |log: &[u8]| compare(log, true, &mut space).is_err();
-    let Ok((start, mut records)) = log::parse(log) else {
-        let mut log = log.to_vec();
+/// The same on an image: answer, bytes, counts and the image after it.
+fn compare_from(case: &Case, image: &Image, answer: &Answer, after: &Image, turn: u64, lent: &mut Lent) -> Result<(), String> {
+    let (needed, place) = (answer.bytes.len(), IMAGE_BYTES + (turn % 2) as usize);
+    expect("answer on an image, and untouched", lent.play(image, &case.log, needed, place, true), done(needed))?;
+    expect("counts on an image", &lent.counts[..3], &[answer.frames, answer.clocks, answer.records])?;
+    same_items(&lent.out[..needed], &answer.bytes)?;
+    same_image("the image after", lent.image_after(), after)
+}
+
+/// At edges: the plain entry, an output one byte short, a place too short, a wrong image; each in front of the refusals that come after it.
+fn compare_edges(case: &Case, image: &Image, answer: &Answer, after: &Image, turn: u64, lent: &mut Lent) -> Result<(), String> {
+    let (log, needed, counted) = (&case.log, answer.bytes.len(), turn % 3 > 0);
+    expect("answer of the plain entry", lent.play(image, log, needed + 7, IMAGE_BYTES, false), done(needed))?;
+    same_items(&lent.out[..needed], &answer.bytes)?;
+    same_image("the image after, by the plain entry", lent.image_after(), after)?;
+    let short = [0, IMAGE_BYTES - 1][turn as usize / 4 % 2];
+    expect("answer without room for the image", lent.play(image, log, needed, short, counted), refused(8, IMAGE_BYTES))?;
+    if needed > 0 {
+        let place = [short, IMAGE_BYTES][turn as usize / 8 % 2];
+        expect("answer one byte short on an image", lent.play(image, log, needed - 1, place, counted), refused(6, needed))?;
+    }
+    let (room, place) = ([0, needed][turn as usize / 4 % 2], [short, IMAGE_BYTES][turn as usize / 16 % 2]);
+    expect("answer on a wrong image", lent.play(&spoilt(image, turn / 4), log, room, place, counted), refused(7, 0))
+}
+
+/// Where so many records are cut: into 2 to 6 parts, some of them perhaps empty.
+fn cut(records: usize, seed: u64) -> Vec<usize> {
+    let mut random = Random::new(seed, 0, 0);
+    let mut ends: Vec<usize> = (0..1 + random.below(5)).map(|_| random.below(records as u64 + 1) as usize).collect();
+    ends.push(records);
+    ends.sort();
+    ends
+}
+
+/// The records in parts, each a log of its own, through images: outputs joined, counts added, and every image. Gives how many images were compared.
+fn compare_parts(records: &[Record], seed: u64, image: &Image, answer: &Answer, lent: &mut Lent) -> Result<u64, String> {
+    let (mut unit, mut now, mut from) = (original::take_up(image), *image, 0);
+    let (mut joined, mut counts, ends) = (Vec::new(), [0; 3], cut(records.len(), seed));
+    for &to in &ends {
+        let (log, mut theirs) = (log::bytes((seed % 4) as u8, &records[from..to]), Answer::default());
+        original::play_on(&mut unit, &records[from..to], &mut theirs);
+        let needed = theirs.bytes.len();
+        expect("answer to a part, and untouched", lent.play(&now, &log, needed, IMAGE_BYTES, true), done(needed))?;
+        same_image("the image after a part", lent.image_after(), &original::image(&unit))?;
+        joined.extend(&lent.out[..needed]);
+        counts = [0, 1, 2].map(|at| counts[at] + lent.counts[at]);
+        now.copy_from_slice(lent.image_after());
+        from = to;
+    }
+    same_items(&joined, &answer.bytes)?;
+    expect("counts of all parts", counts, [answer.frames, answer.clocks, answer.records])?;
+    Ok(ends.len() as u64)
+}
+
+/// Both sides of one case. One turn in four adds outputs and places of other lengths.
+pub fn compare(case: &Case, turn: u64, lent: &mut Lent) -> Result<Sums, String> {
+    let image = first_image(case, turn, lent)?;
+    let (start, records) = match log::parse(&case.log) {
+        Err(refused) => return compare_refused(case, refused, turn, &image, lent),
+        Ok(parsed) => parsed,
+    };
+    let mut unit = case.image.map_or_else(|| original::make(start), |image| original::take_up(&image));
+    same_image("what the original loads and saves", &image, &original::image(&unit))?;
+    let mut answer = Answer::default();
+    original::play_on(&mut unit, &records, &mut answer);
+    let (after, edges) = (original::image(&unit), turn % 4 == 0);
+    if case.image.is_none() {
+        compare_fresh(&case.log, &answer, edges, &mut lent.out)?;
+    }
+    compare_from(case, &image, &answer, &after, turn, lent)?;
+    if edges {
+        compare_edges(case, &image, &answer, &after, turn, lent)?;
+    }
+    let parts = case.cuts.map_or(Ok(0), |seed| compare_parts(&records, seed, &image, &answer, lent))?;
+    Ok(Sums { logs: 1, refused: 0, records: answer.records, clocks: answer.clocks, frames: answer.frames, bytes: answer.bytes.len() as u64, images: 2 + parts })
+}
+
+/// A case whose log is as small as it can be cut down to while it still differs.
+pub fn shrink(case: &Case) -> Case {
+    let mut lent = Lent::new();
+    let with = |log: &[u8]| Case { log: log.to_vec(), ..case.clone() };
+    // a difference may show at some turns alone
+    let mut differs = |log: &[u8]| (0..20).any(|turn| compare(&with(log), turn, &mut lent).is_err());
+    let Ok((start, mut records)) = log::parse(&case.log) else {
+        let mut log = case.log.clone();
         while log.len() > 1 && differs(&log[..log.len() - 1]) {
             log.pop();
         }
-        return log;
+        return with(&log);
     };
     loop {
         let before = records.clone();
         drop_records(start, &mut records, &mut differs);
         simplify(start, &mut records, &mut differs);
         if records == before {
-            return log::bytes(start, &records);
+            return with(&log::bytes(start, &records));
         }
     }
 }

@@ -1,4 +1,6 @@
 //! Logs in families, each from a seed of its own.
+use crate::compare::Case;
+use crate::image::{self, Reader};
 use crate::log::{bytes, Record};
 
 /// A small generator of random numbers (splitmix64).
@@ -32,7 +34,7 @@ impl Random {
         self.next() as u8
     }
 
-    fn of<T: Copy>(&mut self, choices: &[T]) -> T {
+    pub fn of<T: Copy>(&mut self, choices: &[T]) -> T {
         choices[self.below(choices.len() as u64) as usize]
     }
 
@@ -469,6 +471,143 @@ pub fn make(family: usize, seed: u64, index: u64) -> Vec<u8> {
         _ => silences(&mut log),
     }
     bytes(start, &log.records)
+}
+
+// ---- logs played from images
+
+/// A log of another family for play through images; the long ones are rare.
+fn for_images(random: &mut Random, index: u64) -> Vec<u8> {
+    let family = if random.one_in(80) { random.of(&[8, 9]) } else { random.of(&[0, 1, 2, 3, 4, 5, 6, 7, 11]) };
+    make(family, random.next(), index)
+}
+
+/// Cases on images of any kind, and cases cut into parts, some of them from an image of any kind.
+pub const FROM_IMAGES: [(&str, u64); 2] = [("from any image", 1500), ("in parts through images", 1500)];
+
+/// The case of a family of these by its number.
+pub fn from_image(reader: &Reader, family: usize, seed: u64, index: u64) -> Case {
+    let mut random = Random::new(seed, FAMILIES.len() + family, index);
+    let in_parts = family == 1;
+    let image = (!in_parts || random.one_in(3)).then(|| image::any(reader, &mut random));
+    Case { log: for_images(&mut random, index), image, cuts: in_parts.then(|| random.next()) }
+}
+
+// ---- links of a chain of days
+
+/// The half-clocks that a record adds.
+pub fn halves(record: &Record) -> u64 {
+    match *record {
+        Record::Clock { double, count, .. } => u64::from(count) * if double { 1 } else { 2 },
+        _ => 0,
+    }
+}
+
+/// The bytes of a record in a log.
+fn width(record: &Record) -> usize {
+    let mut bytes = Vec::new();
+    record.put(&mut bytes);
+    bytes.len()
+}
+
+/// One thing that a game would do: most often a sound begun again, by its own way.
+fn event(log: &mut Log) {
+    match log.random.below(16) {
+        0..=4 => {
+            let channel = log.random.below(4);
+            log.sound(channel);
+        }
+        5 | 6 => {
+            let (sweep, frequency) = (log.random.byte() & 0x7F, log.random.below(2048));
+            for (addr, value) in [(0xFF10, sweep), (0xFF12, 0xF3), (0xFF13, frequency as u8), (0xFF14, 0x80 | (frequency >> 8) as u8)] {
+                log.write(addr, value);
+            }
+        }
+        7 | 8 => {
+            let ((volume, control), value) = (log.random.of(&[(0xFF12, 0xFF14), (0xFF17, 0xFF19), (0xFF21, 0xFF23)]), log.random.byte() | 0x40);
+            log.write(volume, value);
+            log.write(control, 0x86);
+        }
+        9 | 10 => {
+            let (addr, value) = (log.random.of(&[0xFF13, 0xFF18, 0xFF1D, 0xFF22, 0xFF11, 0xFF16, 0xFF1B, 0xFF20, 0xFF1C]), log.random.byte());
+            log.write(addr, value);
+        }
+        11 => {
+            let (addr, value) = (0xFF30 + log.random.below(16) as u16, log.random.byte());
+            log.write(addr, value);
+        }
+        12 => {
+            let (addr, value) = (log.random.of(&CONTROLS), log.random.byte());
+            log.write(addr, value);
+        }
+        13 if log.random.one_in(4) => log.power_on(),
+        14 => log.look(),
+        _ => {}
+    }
+}
+
+/// Power off, some calls, power on, and everything sounds again.
+fn power_cycle(log: &mut Log) {
+    log.write(0xFF26, 0);
+    let count = log.random.count(3000);
+    log.run(count);
+    log.power_on();
+    log.wave_table();
+    (0..4).for_each(|channel| log.sound(channel));
+}
+
+/// How a link is played: calls of a record at most, clock records between two things done, the speed, and the calls made, which the divider goes by.
+struct Pace {
+    most_calls: u64,
+    between: u64,
+    double: bool,
+    at: u64,
+}
+
+/// Clock records up to the next thing done. Where the divider's bit 4 changes, a record of up to 1,024 calls ends.
+fn pass(log: &mut Log, pace: &mut Pace) {
+    for _ in 0..pace.between {
+        let whole = pace.most_calls == 1024 && !log.random.one_in(8);
+        let count = if whole { 1024 - pace.at % 1024 } else { 1 + log.random.below(pace.most_calls) };
+        log.clock(pace.double, (pace.at / 64) as u8, count as u16);
+        pace.at += count;
+    }
+}
+
+/// A log of a chain, of up to 65,536 bytes and about so many half-clocks: all four channels sound and are begun again, at both speeds, while the divider runs.
+pub fn link(random: Random, most: u64) -> Vec<u8> {
+    let mut log = Log { random, records: Vec::new(), high: false };
+    let start = log.random.below(4) as u8;
+    let (most_calls, between) = log.random.of(&[(1024, 1), (1024, 1), (1024, 4), (16384, 1), (16384, 4), (300, 2), (64, 1)]);
+    let mut pace = Pace { most_calls, between, at: log.random.below(1 << 14), double: log.random.one_in(2) };
+    let (mut counted, mut length, mut halves_made) = (0, 2, 0);
+    power_cycle(&mut log);
+    // no turn adds more than 700 bytes
+    while halves_made < most && length + 700 < 65536 {
+        pass(&mut log, &mut pace);
+        event(&mut log);
+        pace.double ^= log.random.one_in(60);
+        if log.random.one_in(700) {
+            power_cycle(&mut log);
+        }
+        length += log.records[counted..].iter().map(width).sum::<usize>();
+        halves_made += log.records[counted..].iter().map(halves).sum::<u64>();
+        counted = log.records.len();
+    }
+    fill(&mut log, length);
+    bytes(start, &log.records)
+}
+
+/// Reads up to a log of exactly 65,536 bytes, where it is nearly that long.
+fn fill(log: &mut Log, length: usize) {
+    let mut left = 65536 - length;
+    while left <= 800 && left > 0 {
+        // a read takes 5 bytes, both PCM reads 3
+        match left % 3 {
+            0 => log.records.push(Record::Pcm),
+            _ => log.read(0xFF26),
+        }
+        left -= if left % 3 == 0 { 3 } else { 5 };
+    }
 }
 
 // ---- what can be tried whole

@@ -1,48 +1,60 @@
 //! Compares the proved player with the original, log by log. See ./differential.
+mod acceptance;
 mod compare;
+mod days;
 mod generate;
+mod image;
 mod log;
 mod original;
+mod port;
 mod record;
 
-use compare::Sums;
-use generate::{BODY_LOGS, FAMILIES, REGISTER_LOGS, SHORT_LOGS};
+use compare::{Case, Sums};
+use generate::{BODY_LOGS, FAMILIES, FROM_IMAGES, REGISTER_LOGS, SHORT_LOGS};
 use std::io::{IsTerminal, Write};
 use std::sync::atomic::{AtomicBool, AtomicU64, Ordering::Relaxed};
 use std::sync::Mutex;
 use std::time::{Duration, Instant};
 
 struct Options {
+    image: Option<image::Image>,
     logs: u64,
     seed: u64,
     minutes: Option<f64>,
     keep_going: bool,
 }
 
-/// A family, how many logs of it there are, and the log by its number.
+/// A family, how many cases of it there are, and the case by its number.
 struct Family {
     name: &'static str,
     logs: u64,
-    make: Box<dyn Fn(u64) -> Vec<u8> + Sync>,
+    make: Box<dyn Fn(u64) -> Case + Sync>,
+}
+
+fn on_fresh_units(name: &'static str, logs: u64, make: impl Fn(u64) -> Vec<u8> + Sync + 'static) -> Family {
+    Family { name, logs, make: Box::new(move |index| Case { log: make(index), ..Case::default() }) }
 }
 
 fn families(options: &Options) -> Vec<Family> {
     let seed = options.seed;
-    let mut all: Vec<Family> = (0..FAMILIES.len())
-        .map(|number| {
-            let (name, share) = FAMILIES[number];
-            let logs = if options.minutes.is_some() { u64::MAX } else { (options.logs * share).div_ceil(10000) };
-            Family { name, logs, make: Box::new(move |index| generate::make(number, seed, index)) }
-        })
-        .collect();
-    all.push(Family { name: "every register and byte", logs: REGISTER_LOGS, make: Box::new(generate::register_log) });
-    all.push(Family { name: "every body of one record", logs: BODY_LOGS, make: Box::new(generate::body_log) });
-    all.push(Family { name: "every log to 3 bytes", logs: SHORT_LOGS, make: Box::new(generate::short_log) });
+    let many = |share: u64| if options.minutes.is_some() { u64::MAX } else { (options.logs * share).div_ceil(10000) };
+    let mut all: Vec<Family> = Vec::new();
+    for (number, (name, share)) in FAMILIES.into_iter().enumerate() {
+        all.push(on_fresh_units(name, many(share), move |index| generate::make(number, seed, index)));
+    }
+    for (number, (name, share)) in FROM_IMAGES.into_iter().enumerate() {
+        let reader = image::Reader::new();
+        all.push(Family { name, logs: many(share), make: Box::new(move |index| generate::from_image(&reader, number, seed, index)) });
+    }
+    all.push(on_fresh_units("every register and byte", REGISTER_LOGS, generate::register_log));
+    all.push(on_fresh_units("every body of one record", BODY_LOGS, generate::body_log));
+    all.push(on_fresh_units("every log to 3 bytes", SHORT_LOGS, generate::short_log));
     all
 }
 
 struct Difference {
-    log: Vec<u8>,
+    case: Case,
+    turn: u64,
     what: String,
 }
 
@@ -63,12 +75,12 @@ fn run_family(family: &Family, number: usize, options: &Options, until: Option<I
     std::thread::scope(|scope| {
         for _ in 0..threads {
             scope.spawn(|| {
-                let (mut sums, mut differing, mut space) = (Sums::default(), 0, Vec::new());
+                let (mut sums, mut differing, mut lent) = (Sums::default(), 0, port::Lent::new());
                 while !stop.load(Relaxed) && !late() {
                     let from = next.fetch_add(chunk, Relaxed);
                     for index in from..family.logs.min(from.saturating_add(chunk)) {
-                        let log = (family.make)(index);
-                        match compare::compare(&log, index % 4 == 0, &mut space) {
+                        let case = (family.make)(index);
+                        match compare::compare(&case, index, &mut lent) {
                             Ok(one) => {
                                 clocks.fetch_add(one.clocks, Relaxed);
                                 sums.add(&one);
@@ -76,7 +88,7 @@ fn run_family(family: &Family, number: usize, options: &Options, until: Option<I
                             Err(what) => {
                                 sums.logs += 1;
                                 differing += 1;
-                                run.lock().expect("no thread panicked").first.get_or_insert(Difference { log, what });
+                                run.lock().expect("no thread panicked").first.get_or_insert(Difference { case, turn: index, what });
                                 stop.store(!options.keep_going, Relaxed);
                             }
                         }
@@ -118,11 +130,11 @@ fn grouped(number: u64) -> String {
 }
 
 fn print_table(families: &[Family], run: &Run) {
-    println!("| family | logs | of them refused | records | clocks | frames | bytes compared | differing logs |");
-    println!("|---|---:|---:|---:|---:|---:|---:|---:|");
+    println!("| family | logs | of them refused | records | clocks | frames | bytes compared | images compared | differing logs |");
+    println!("|---|---:|---:|---:|---:|---:|---:|---:|---:|");
     let mut total = Sums::default();
     let row = |name: &str, sums: &Sums, differing: u64| {
-        let cells = [sums.logs, sums.refused, sums.records, sums.clocks, sums.frames, sums.bytes, differing].map(grouped);
+        let cells = [sums.logs, sums.refused, sums.records, sums.clocks, sums.frames, sums.bytes, sums.images, differing].map(grouped);
         println!("| {name} | {} |", cells.join(" | "));
     };
     for (number, family) in families.iter().enumerate() {
@@ -132,35 +144,43 @@ fn print_table(families: &[Family], run: &Run) {
     row("all", &total, run.differing.iter().sum());
 }
 
-/// The first difference, cut down, to a file and as records.
+/// The first difference, cut down, to a file and as records; an image that it is played on in a file beside it.
 fn report(first: &Difference) {
-    let small = compare::shrink(&first.log);
-    let what = compare::compare(&small, true, &mut Vec::new()).err().unwrap_or_else(|| first.what.clone());
+    let small = compare::shrink(&first.case);
+    let again = |turn| compare::compare(&small, turn, &mut port::Lent::new()).err();
+    let what = again(first.turn).or_else(|| (0..20).find_map(again)).unwrap_or_else(|| first.what.clone());
     let file = std::env::temp_dir().join("difference.log");
-    let file = std::env::var_os("DIFFERENCE").map_or(file, Into::into);
-    match std::fs::write(&file, &small) {
-        Ok(()) => println!("a difference, cut down to {} bytes, is in {}:", small.len(), file.display()),
-        Err(error) => println!("a difference, cut down to {} bytes ({} could not be written: {error}):", small.len(), file.display()),
+    let file: std::path::PathBuf = std::env::var_os("DIFFERENCE").map_or(file, Into::into);
+    let written = std::fs::write(&file, &small.log).and_then(|()| small.image.map_or(Ok(()), |image| std::fs::write(file.with_extension("image"), image)));
+    match written {
+        Ok(()) => println!("a difference, cut down to {} bytes, is in {}:", small.log.len(), file.display()),
+        Err(error) => println!("a difference, cut down to {} bytes ({} could not be written: {error}):", small.log.len(), file.display()),
     }
-    match log::parse(&small) {
+    if let Some(image) = small.image {
+        println!("  on the image {}", image.map(|byte| format!("{byte:02X}")).concat());
+    }
+    match log::parse(&small.log) {
         Ok((start, records)) => {
             println!("  start {start}");
             records.iter().for_each(|record| println!("  {record}"));
         }
-        Err(refused) => println!("  {small:02X?}, which document 01 refuses with {} {}", refused.0, refused.1),
+        Err(refused) => println!("  {:02X?}, which document 01 refuses with {} {}", small.log, refused.0, refused.1),
+    }
+    if small.cuts.is_some() {
+        println!("  in parts through images");
     }
     println!("{what}");
 }
 
 /// One log: what both make of it, or where they differ.
-fn one_log(log: Vec<u8>) -> i32 {
-    match compare::compare(&log, true, &mut Vec::new()) {
+fn one_log(case: Case) -> i32 {
+    match compare::compare(&case, 0, &mut port::Lent::new()) {
         Err(what) => {
-            report(&Difference { log, what });
+            report(&Difference { case, turn: 0, what });
             1
         }
         Ok(_) => {
-            match original::play(&log) {
+            match case.image.map_or_else(|| original::play(&case.log), |image| original::play_from(&image, &case.log)) {
                 Ok(answer) => besticoro::items(&answer.bytes).for_each(|item| println!("{item}")),
                 Err(refused) => println!("refusal {} with {}", refused.0, refused.1),
             }
@@ -171,45 +191,52 @@ fn one_log(log: Vec<u8>) -> i32 {
 }
 
 fn usage(error: &str) -> ! {
-    eprintln!("{error}\nusage: ./differential [--logs N] [--seed S] [--minutes M] [--keep-going] [--log FILE] [--oracle PATH]");
+    eprintln!("{error}\nusage: ./differential [--logs N] [--seed S] [--minutes M] [--keep-going] [[--image FILE] --log FILE] [--oracle PATH]");
     std::process::exit(2)
 }
 
+fn read(file: &str) -> Vec<u8> {
+    std::fs::read(file).unwrap_or_else(|error| usage(&format!("{file}: {error}")))
+}
+
+fn real(text: String) -> f64 {
+    text.parse().unwrap_or_else(|_| usage(&format!("{text} is no number")))
+}
+
+/// An image of a file, which is taken.
+fn read_image(file: &str) -> image::Image {
+    let taken = read(file).try_into().ok().filter(|image: &image::Image| image::Reader::new().taken(image));
+    taken.unwrap_or_else(|| usage(&format!("{file} is no image that is taken")))
+}
+
+/// An option that is a task of its own: its status.
+fn task(word: &str, mut value: impl FnMut() -> String, options: &Options) -> i32 {
+    let written = match word {
+        "--log" => return one_log(Case { log: read(&value()), image: options.image, cuts: None }),
+        "--acceptance" => return acceptance::run(options.seed, options.keep_going),
+        "--days" => return days::run(real(value()), options.seed),
+        "--record" => record::record(value().as_ref(), value().as_ref(), options.seed),
+        "--residue" => record::residue(value().as_ref(), options.seed, 2),
+        "--sample" => record::sample(value().as_ref(), options.seed, 10),
+        _ => usage(&format!("{word} is no option")),
+    };
+    written.unwrap_or_else(|error| usage(&format!("{word}: {error}")));
+    0
+}
+
 fn options() -> Options {
-    let mut options = Options { logs: 120_000, seed: 1, minutes: None, keep_going: false };
+    let mut options = Options { image: None, logs: 120_000, seed: 1, minutes: None, keep_going: false };
     let mut words = std::env::args().skip(1);
     while let Some(word) = words.next() {
-        let mut value = || words.next().unwrap_or_else(|| usage(&format!("{word} takes a number")));
+        let mut value = || words.next().unwrap_or_else(|| usage(&format!("{word} takes a value")));
         let number = |text: String| text.parse().unwrap_or_else(|_| usage(&format!("{text} is no number")));
         match word.as_str() {
             "--logs" => options.logs = number(value()),
             "--seed" => options.seed = number(value()),
-            "--minutes" => {
-                let text = value();
-                options.minutes = Some(text.parse().unwrap_or_else(|_| usage(&format!("{text} is no number"))));
-            }
+            "--minutes" => options.minutes = Some(real(value())),
             "--keep-going" => options.keep_going = true,
-            "--log" => {
-                let file = value();
-                let log = std::fs::read(&file).unwrap_or_else(|error| usage(&format!("{file}: {error}")));
-                std::process::exit(one_log(log))
-            }
-            "--record" => {
-                let (file, folder) = (value(), value());
-                record::record(file.as_ref(), folder.as_ref(), options.seed).unwrap_or_else(|error| usage(&format!("{file}: {error}")));
-                std::process::exit(0)
-            }
-            "--residue" => {
-                let folder = value();
-                record::residue(folder.as_ref(), options.seed, 2).unwrap_or_else(|error| usage(&format!("{folder}: {error}")));
-                std::process::exit(0)
-            }
-            "--sample" => {
-                let folder = value();
-                record::sample(folder.as_ref(), options.seed, 10).unwrap_or_else(|error| usage(&format!("{folder}: {error}")));
-                std::process::exit(0)
-            }
-            _ => usage(&format!("{word} is no option")),
+            "--image" => options.image = Some(read_image(&value())),
+            _ => std::process::exit(task(&word, value, &options)),
         }
     }
     options
@@ -221,8 +248,9 @@ fn main() {
     let run = Mutex::new(Run { sums: vec![Sums::default(); families.len()], differing: vec![0; families.len()], first: None });
     let began = Instant::now();
     for (number, family) in families.iter().enumerate() {
-        let share = options.minutes.map(|minutes| Duration::from_secs_f64(minutes * 60.0 / FAMILIES.len() as f64));
-        let until = share.filter(|_| number < FAMILIES.len()).map(|share| Instant::now() + share);
+        let random = FAMILIES.len() + FROM_IMAGES.len();
+        let share = options.minutes.map(|minutes| Duration::from_secs_f64(minutes * 60.0 / random as f64));
+        let until = share.filter(|_| number < random).map(|share| Instant::now() + share);
         run_family(family, number, &options, until, &run);
         if !options.keep_going && run.lock().expect("no thread panicked").first.is_some() {
             break;

@@ -1,6 +1,8 @@
 //! Writes what the original answers to a sample of logs, for the program crates/replay.
 use crate::compare::digest;
-use crate::{generate, original};
+use crate::generate;
+use crate::log::Record;
+use crate::original::{self, Answer};
 use std::io::Write;
 use std::path::Path;
 
@@ -88,14 +90,30 @@ pub fn sample(folder: &Path, seed: u64, many: u64) -> std::io::Result<()> {
     Ok(())
 }
 
-/// The first whole logs of faint residue, so many, and what the original makes of them: N.log and N.bytes.
+/// The first whole logs of faint residue, so many, and what the original makes of them: N.log and N.bytes; its state then, N.image; and a log played on that,
+/// N.later, with what it makes and the state after it, N.later_bytes and N.later_image.
 pub fn residue(folder: &Path, seed: u64, many: u64) -> std::io::Result<()> {
     let number = generate::FAMILIES.iter().position(|(family, _)| *family == "faint residue").expect("a family of that name");
+    let later = [Record::Pcm, Record::Clock { double: false, divider: 0, count: 9000 }, Record::Read { addr: 0xFF26 }];
     for index in 0..many {
         let log = generate::make(number, seed, index);
-        let answer = original::play(&log).expect("no log of this family is refused");
-        std::fs::write(folder.join(format!("{index}.log")), &log)?;
-        std::fs::write(folder.join(format!("{index}.bytes")), answer.bytes)?;
+        let (start, records) = crate::log::parse(&log).expect("no log of this family is refused");
+        let (mut unit, mut first, mut second) = (original::make(start), Answer::default(), Answer::default());
+        original::play_on(&mut unit, &records, &mut first);
+        let image = original::image(&unit);
+        original::play_on(&mut unit, &later, &mut second);
+        let after = original::image(&unit);
+        let files: [(&str, &[u8]); 6] = [
+            ("log", &log),
+            ("bytes", &first.bytes),
+            ("image", &image),
+            ("later", &crate::log::bytes(start, &later)),
+            ("later_bytes", &second.bytes),
+            ("later_image", &after),
+        ];
+        for (kind, bytes) in files {
+            std::fs::write(folder.join(format!("{index}.{kind}")), bytes)?;
+        }
     }
     Ok(())
 }

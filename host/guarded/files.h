@@ -1,4 +1,4 @@
-// A residue log and what the original makes of it: FOLDER/N.log and FOLDER/N.bytes, as ./differential --residue writes them.
+// A residue log and what the original makes of it: FOLDER/N.log, N.bytes and the rest, as ./differential --residue writes them.
 #include <stdio.h>
 #include <stdlib.h>
 #include <string.h>

@@ -4,23 +4,54 @@
 
 unsigned spy_calls, spy_wrong;
 
-uint64_t __real_play_access_log(const uint8_t *log, size_t log_length, uint8_t *out, size_t out_length);
-uint64_t __real_play_access_log_counted(const uint8_t *log, size_t log_length, uint8_t *out, size_t out_length, uint64_t *counts, size_t counts_length);
-
-static void look(const void *log, const void *out, const void *counts) {
+// One call, and the pointers that it brings.
+static void look(const void *const *parts, unsigned n) {
     spy_calls++;
-    if (!log || !out || !counts || (uintptr_t)counts % 8 != 0) spy_wrong++;
+    for (unsigned i = 0; i < n; i++)
+        if (!parts[i]) spy_wrong++;
     // the control bits alone: on Arm the flags of the host still stand
     if ((uint32_t)get() != (uint32_t)DEFAULT) spy_wrong++;
 }
 
+static void look_at_counts(const uint64_t *counts) {
+    if ((uintptr_t)counts % 8 != 0) spy_wrong++;
+}
+
+uint64_t __real_play_access_log(const uint8_t *log, size_t log_length, uint8_t *out, size_t out_length);
 uint64_t __wrap_play_access_log(const uint8_t *log, size_t log_length, uint8_t *out, size_t out_length) {
-    static uint64_t none;
-    look(log, out, &none);
+    const void *parts[] = {log, out};
+    look(parts, 2);
     return __real_play_access_log(log, log_length, out, out_length);
 }
 
+uint64_t __real_play_access_log_counted(const uint8_t *log, size_t log_length, uint8_t *out, size_t out_length, uint64_t *counts, size_t counts_length);
 uint64_t __wrap_play_access_log_counted(const uint8_t *log, size_t log_length, uint8_t *out, size_t out_length, uint64_t *counts, size_t counts_length) {
-    look(log, out, counts);
+    const void *parts[] = {log, out, counts};
+    look(parts, 3), look_at_counts(counts);
     return __real_play_access_log_counted(log, log_length, out, out_length, counts, counts_length);
+}
+
+uint64_t __real_make_image(uint8_t start, uint8_t *image, size_t image_length);
+uint64_t __wrap_make_image(uint8_t start, uint8_t *image, size_t image_length) {
+    const void *parts[] = {image};
+    look(parts, 1);
+    return __real_make_image(start, image, image_length);
+}
+
+uint64_t __real_play_from_image(const uint8_t *image, size_t image_length, const uint8_t *log, size_t log_length,
+    uint8_t *out, size_t out_length, uint8_t *after, size_t after_length);
+uint64_t __wrap_play_from_image(const uint8_t *image, size_t image_length, const uint8_t *log, size_t log_length,
+    uint8_t *out, size_t out_length, uint8_t *after, size_t after_length) {
+    const void *parts[] = {image, log, out, after};
+    look(parts, 4);
+    return __real_play_from_image(image, image_length, log, log_length, out, out_length, after, after_length);
+}
+
+uint64_t __real_play_from_image_counted(const uint8_t *image, size_t image_length, const uint8_t *log, size_t log_length,
+    uint8_t *out, size_t out_length, uint8_t *after, size_t after_length, uint64_t *counts, size_t counts_length);
+uint64_t __wrap_play_from_image_counted(const uint8_t *image, size_t image_length, const uint8_t *log, size_t log_length,
+    uint8_t *out, size_t out_length, uint8_t *after, size_t after_length, uint64_t *counts, size_t counts_length) {
+    const void *parts[] = {image, log, out, after, counts};
+    look(parts, 5), look_at_counts(counts);
+    return __real_play_from_image_counted(image, image_length, log, log_length, out, out_length, after, after_length, counts, counts_length);
 }

@@ -33,14 +33,32 @@ fn said(same: bool) -> &'static str {
     if same { "the original's" } else { "OTHERS" }
 }
 
+/// The folder's files: a log and what the original makes of it, its state then, and a log played on that, with what it makes and the state after it.
+struct Files {
+    log: Vec<u8>,
+    original: Vec<u8>,
+    image: Vec<u8>,
+    later: Vec<u8>,
+    later_original: Vec<u8>,
+    later_image: Vec<u8>,
+}
+
+// Whether playing at once, and taking up the image, give the original's bytes and state. Called in any mode: nothing here but the calls has floats.
+fn plays(files: &Files, out: &mut [u8], later_out: &mut [u8]) -> bool {
+    let whole = besticoro::render(&files.log, out).is_ok_and(|rendering| rendering.bytes() == files.original);
+    let Ok(image) = besticoro::Image::from_bytes(&files.image) else { return false };
+    let later = image.render(&files.later, later_out);
+    whole && later.is_ok_and(|(rendering, after)| rendering.bytes() == files.later_original && after.as_bytes()[..] == files.later_image)
+}
+
 // Plays in a mode: whether the bytes are the original's, and whether the mode stood.
-fn play(log: &[u8], original: &[u8], wanted: u64) -> (bool, bool) {
-    let mut out = vec![0; original.len()];
+fn play(files: &Files, wanted: u64) -> (bool, bool) {
+    let (mut out, mut later_out) = (vec![0; files.original.len()], vec![0; files.later_original.len()]);
     set_mode(wanted);
-    let rendering = besticoro::render(log, &mut out);
+    let same = plays(files, &mut out, &mut later_out);
     let after = mode();
     set_mode(MODES[0].1);
-    (rendering.is_ok_and(|rendering| rendering.bytes() == original), after == wanted)
+    (same, after == wanted)
 }
 
 // The unguarded entry in a mode: whether its bytes are the original's.
@@ -56,15 +74,16 @@ fn play_unguarded(log: &[u8], original: &[u8], mode: u64) -> bool {
 fn main() {
     let folder = std::env::args().nth(1).expect("thread FOLDER");
     let read = |name: &str| std::fs::read(format!("{folder}/{name}")).expect("a residue log and its bytes");
-    let (log, original) = (read("0.log"), read("0.bytes"));
+    let (log, original, image) = (read("0.log"), read("0.bytes"), read("0.image"));
+    let files = Files { log, original, image, later: read("0.later"), later_original: read("0.later_bytes"), later_image: read("0.later_image") };
     let mut wrong = 0;
     std::thread::scope(|scope| {
-        let (log, original) = (&log, &original);
+        let files = &files;
         // what the guard is for, by the first two modes: the default and flush-to-zero
-        let [plain, flushed] = [MODES[0].1, MODES[1].1].map(|mode| scope.spawn(move || play_unguarded(log, original, mode)).join().expect("no thread panicked"));
+        let [plain, flushed] = [MODES[0].1, MODES[1].1].map(|mode| scope.spawn(move || play_unguarded(&files.log, &files.original, mode)).join().expect("no thread panicked"));
         wrong += u32::from(!plain) + u32::from(flushed);
         println!("unguarded in a Rust thread: {} in the default, {} with flush-to-zero", said(plain), said(flushed));
-        let threads = MODES.map(|(name, mode)| (name, scope.spawn(move || (0..20).map(|_| play(log, original, mode)).fold((true, true), |a, b| (a.0 & b.0, a.1 & b.1)))));
+        let threads = MODES.map(|(name, mode)| (name, scope.spawn(move || (0..20).map(|_| play(files, mode)).fold((true, true), |a, b| (a.0 & b.0, a.1 & b.1)))));
         for (name, thread) in threads {
             let (same, stood) = thread.join().expect("no thread panicked");
             wrong += u32::from(!same) + u32::from(!stood);

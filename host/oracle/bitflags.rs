@@ -2,6 +2,7 @@
 #[macro_export]
 macro_rules! bitflags {
     ($(#[$meta:meta])* struct $name:ident: $bits:ty { $(const $flag:ident = $value:expr;)* }) => {
+        $(#[$meta])*
         #[derive(Clone, Copy)]
         struct $name {
             bits: $bits,

@@ -1,11 +1,12 @@
 // Plays the commands of crates/sequences/stdin on the original and prints what that program prints.
+use save_state::Savable;
 use std::io::{Read, Write};
 
 #[allow(dead_code)]
 mod apu;
 
 // Of the original's configuration only the model is read.
-#[derive(Clone, Copy, Default)]
+#[derive(Clone, Copy, Default, Savable)]
 pub struct GameBoyConfig {
     pub is_dmg: bool,
 }

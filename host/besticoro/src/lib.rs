@@ -18,10 +18,12 @@
 //! ```
 mod entries;
 mod envelope;
+mod image;
 mod items;
 mod refusal;
 
 pub use envelope::Envelope;
+pub use image::{render_from, Image, IMAGE_BYTES};
 pub use items::{items, Channel, Frame, Item, Items, Side};
 pub use refusal::{BadStart, Fault, Refusal};
 

@@ -1,7 +1,7 @@
-//! Why a log was not played, in words that a person can act on.
+//! Why a log was not played or an image not taken, in words that a person can act on.
 use std::fmt;
 
-/// Why a log was not played. Nothing was written then.
+/// Why a log was not played, or an image not taken or not made. Nothing was written then.
 #[derive(Clone, Copy, Debug, PartialEq, Eq)]
 pub enum Refusal {
     /// 3
@@ -12,6 +12,10 @@ pub enum Refusal {
     WrongRecord { record: usize, place: usize, fault: Fault },
     /// 6
     NoRoom { needed: usize },
+    /// 7
+    WrongImage,
+    /// 8
+    NoRoomForImage { needed: usize },
     /// FFFF hex: memory that cannot be lent. The functions of this crate lend slices alone, and do not get it.
     BadMemory,
     /// Numbers that the table does not have, or a log that this crate finds nothing wrong with: the library is not the one that it was written for.
@@ -80,6 +84,8 @@ impl fmt::Display for Refusal {
             Refusal::BadStart(what) => what.fmt(f),
             Refusal::WrongRecord { place, fault, .. } => write!(f, "byte {place}: {fault}"),
             Refusal::NoRoom { needed } => write!(f, "the output is shorter than the {needed} bytes needed"),
+            Refusal::WrongImage => write!(f, "the image is not one that is taken: its version, its length or a field is wrong"),
+            Refusal::NoRoomForImage { needed } => write!(f, "the place for the image is shorter than the {needed} bytes needed"),
             Refusal::BadMemory => write!(f, "the memory lent is null, overlaps or passes the address space"),
             Refusal::Unknown { refusal, number } => write!(f, "refusal {refusal} with {number}, which this crate does not know: is the library of another version?"),
         }
@@ -97,6 +103,8 @@ pub(crate) fn judge(answer: u64, log: &[u8]) -> Result<usize, Refusal> {
         4 => bad_start(log).map(Refusal::BadStart),
         5 => fault_at(log, number as usize).map(|(place, fault)| Refusal::WrongRecord { record: number as usize, place, fault }),
         6 => Some(Refusal::NoRoom { needed: number as usize }),
+        7 => Some(Refusal::WrongImage),
+        8 => Some(Refusal::NoRoomForImage { needed: number as usize }),
         0xFFFF => Some(Refusal::BadMemory),
         _ => None,
     };
@@ -186,7 +194,7 @@ mod tests {
     #[test]
     fn numbers_of_another_library() {
         let good = [1, 1];
-        for (refusal, number) in [(1, 0), (4, 0), (5, 2), (5, 900), (7, 3)] {
+        for (refusal, number) in [(1, 0), (4, 0), (5, 2), (5, 900), (9, 3)] {
             assert_eq!(super::judge(refusal << 48 | number, &good), Err(Refusal::Unknown { refusal, number }));
         }
         assert_eq!(super::judge(0xFFFF << 48, &good), Err(Refusal::BadMemory));
