@@ -41,7 +41,7 @@ no false = refl
 
 pub taken-no-test : (s : List ℕ) (r : Taken) → r ≡ takenIf false freshDmg → unitFits s 0 ≡ false → r ≡ takenOf s
 unfolding takenOf isTaken
-taken-no-test s r e o = e ∙ rw (o, no (eqb (length s) 164))
+taken-no-test s r e o = e ∙ simp (o, no)
 
 pub taken-no-length : (s : List ℕ) (r : Taken) → r ≡ takenIf false freshDmg → (length s ≡ 164 → ⊥) → r ≡ takenOf s
 unfolding takenOf isTaken
