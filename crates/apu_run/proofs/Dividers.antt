@@ -9,9 +9,9 @@ use Rattle.ground.specs.Pick.{pick}
 use Rattle.ground.specs.Iterate.{iterate}
 use Rattle.apu_clock.specs.Sequencer.{bitOf}
 use Rattle.apu_run.specs.Working.{Take}
-use Rattle.apu_run.specs.Calls.{dividerAt}
+use Rattle.log_records.specs.Divider.{dividerAt}
 use Rattle.apu_run.specs.Owed.{changeOf, OneBit}
-use Rattle.apu_run.specs.declared.calls.Divider.{Divider}
+use Rattle.log_records.specs.declared.divider.Divider.{Divider}
 use Rattle.apu_run.proofs.Rows.{callOn, rows, rows-none, rows-first}
 use Rattle.apu_run.proofs.Beats.{callBy, call-by}
 

@@ -8,7 +8,7 @@ use lib.Dec.{eqb}
 use lib.Ieee.{Float, binary32, ofBits, ofInt, add, mul, div}
 use Rattle.ground.specs.Pick.{pick}
 use Rattle.ground.proofs.Cases.{pick-true, and-left, and-right}
-use Rattle.frame.specs.Converter.{f0, stepped}
+use Rattle.frame.specs.Converter.{f0, inOf, stepped}
 use Rattle.frame.specs.Mixing.{f5, f8, sideOf, sidesOf, selectedOf, voiced, sum4, mixed}
 use Rattle.frame.specs.declared.converter.Converter.{Converter}
 use Rattle.frame.specs.declared.mixing.Voiced.{Voiced}
@@ -28,7 +28,7 @@ use Rattle.apu_run.specs.FrameStep.{frameStepOf}
 use Rattle.log_items.specs.Items as silent
 use Rattle.apu.specs.declared.Apu.{Apu}
 use Rattle.apu_run.specs.Phases.{settingsOf}
-use Rattle.apu_run.specs.FrameSettings.{loudOf, routeOf, frameSettingsOf, pulseOutput, nibbleAt, waveOutput, noiseOutput, soundOf, frameStepBy}
+use Rattle.apu_run.specs.FrameSettings.{loudOf, routeOf, frameSettingsOf, pulseOutput, nibbleAt, waveOutput, noiseOutput, levelsOf, soundOf, frameStepBy}
 use Rattle.apu_run.specs.Parts.{silentOf}
 use Rattle.apu_run.specs.declared.phases.Phases.{Phases}
 use Rattle.apu_run.specs.declared.phases.Settings.{Settings}
@@ -76,7 +76,7 @@ module _ (d : Converter) (control selection channel : ℕ) where
   leftVolume = control / 16 % 8
 
   abbrev sounded : ℕ → Bool → Voiced
-  sounded output muted = soundOf d output (routeOf muted selection channel) (loudOf rightVolume) (loudOf leftVolume)
+  sounded output muted = soundOf d (inOf output) (routeOf muted selection channel) (loudOf rightVolume) (loudOf leftVolume)
 
   -- two channels whose converters are alike, by their sides
   same-sides : (k : Converter) (a b x y : Float) → a ≡ x → b ≡ y
@@ -154,8 +154,9 @@ unfolding noise.outputOf
 noise-in n t e = other-times _ (n .envelope .«current_volume») (omega arith) ∙ on-pick (n .«channel_enabled») _ _ (on-of (n .«channel_enabled») _ e)
 
 -- ---- the frame
-pub by-frame-settings : (s : Settings) (m : Phases) (k : Converters) → frameStepBy (frameSettingsOf s) m k (s .wave .buffer) ≡ frameStepOf s m k
-unfolding frameStepBy frameSettingsOf frameStepOf
+pub by-frame-settings : (s : Settings) (m : Phases) (k : Converters)
+    → let t = frameSettingsOf s in frameStepBy t (levelsOf t m (s .wave .buffer)) k ≡ frameStepOf s m k
+unfolding frameStepBy frameSettingsOf levelsOf frameStepOf
 by-frame-settings s m k =
     let control : ℕ = s .«channels_control» in
     let selection : ℕ = s .«channels_selection» in

@@ -1,10 +1,12 @@
 -- Many clocks of what moves are each part's own, and keep its ranges. Assumes nothing.
 use mathlib.Core.Path.{_≡_, refl, sym, ap, _∙_}
 use mathlib.Core.Bool.{Bool, true, false, _&&_}
-use lib.Dec.{leb}
-use borrow.Author.Tests.{leb-true}
-use Prim.Native.Nat.{ℕ, zero, suc, _+_, _-_, _*_, _≤_}
+use lib.Dec.{leb, ltb}
+use borrow.Author.Tests.{leb-true, ltb-true, ltb-false}
+use Prim.Native.Nat.{ℕ, zero, suc, _+_, _-_, _*_, _/_, _≤_}
+use native.Mathlib.Nat.{le-refl}
 use native.Mathlib.Omega.{arith}
+use Rattle.ground.specs.Pick.{pick}
 use Rattle.ground.specs.Iterate.{iterate}
 use Rattle.ground.proofs.Cases.{pick-true, pick-false, pick-holds, and-left, and-right}
 use Rattle.ground.proofs.Timers.{iterate-holds}
@@ -19,7 +21,7 @@ use Rattle.channel_noise.specs.Phase.{noisePhaseClocked}
 use Rattle.channel_noise.proofs.Phases as hisses
 use Rattle.apu.specs.Held.{Held, FloatsHeld}
 use Rattle.apu.specs.declared.Apu.{Apu}
-use Rattle.apu_run.specs.Phases.{SettingsHeld, PhasesHeld, ConvertersHeld, settingsOf, phasesOf, convertersOf, slowOf, phasesClocked}
+use Rattle.apu_run.specs.Phases.{SettingsHeld, PhasesHeld, ConvertersHeld, settingsOf, phasesOf, convertersOf, least, phasesClocked}
 use Rattle.apu_run.specs.declared.phases.Phases.{Phases}
 use Rattle.apu_run.specs.declared.phases.Settings.{Settings}
 
@@ -61,28 +63,42 @@ module _ (s : Settings) where
   pub moves-held : SettingsHeld s → (n : ℕ) (m : Phases) → PhasesHeld m → PhasesHeld (iterate n (phasesClocked s) m)
   moves-held h n m k = iterate-holds PhasesHeld (phasesClocked s) (move-held h) n m k
 
--- ---- clocks no more than a period has, two for each of the wave's
-pub record Near (s : Settings) (n : ℕ) : Type 0 where
-  pub some : 1 ≤ n
-  pub pulse1 : n ≤ pulse.reloadOf (s .pulse1) + 1
-  pub pulse2 : n ≤ pulse.reloadOf (s .pulse2) + 1
-  pub wave : n * 2 ≤ wave.reloadOf (s .wave) + 1
+-- ---- the smaller of two is no more than either
+pub least-first : (a b : ℕ) → least a b ≤ a
+unfolding least pick
+least-first a b = go (ltb a b) refl
+  where
+    go : (t : Bool) → ltb a b ≡ t → pick t a b ≤ a
+    go true e = le-refl a
+    go false e = ltb-false a b e
 
-pub near-of : (s : Settings) (n : ℕ) (slow : Bool) → slow ≡ slowOf s → (slow && (leb 1 n && leb n 24)) ≡ true → Near s n
-near-of s n slow e h =
-    let tests : (slowOf s && (leb 1 n && leb n 24)) ≡ true = rw (← e) h in
-    let timers = and-left (slowOf s) (leb 1 n && leb n 24) tests in
-    let clocks = and-right (slowOf s) (leb 1 n && leb n 24) tests in
-    let others = and-right (leb (s .pulse1 .frequency) 2024) _ timers in
-    let few : n ≤ 24 = leb-true n 24 (and-right (leb 1 n) _ clocks) in
-    let first : s .pulse1 .frequency ≤ 2024 = leb-true _ _ (and-left (leb (s .pulse1 .frequency) 2024) _ timers) in
-    let second : s .pulse2 .frequency ≤ 2024 = leb-true _ _ (and-left (leb (s .pulse2 .frequency) 2024) _ others) in
-    let third : s .wave .frequency ≤ 2000 = leb-true _ _ (and-right (leb (s .pulse2 .frequency) 2024) _ others) in
+pub least-second : (a b : ℕ) → least a b ≤ b
+unfolding least pick
+least-second a b = go (ltb a b) refl
+  where
+    go : (t : Bool) → ltb a b ≡ t → pick t a b ≤ b
+    go true e = let l = ltb-true a b e in omega arith
+    go false e = le-refl b
+
+-- ---- clocks no more than a period has, two for each of the wave's
+pub record Near (n r1 r2 r3 : ℕ) : Type 0 where
+  pub some : 1 ≤ n
+  pub pulse1 : n ≤ r1 + 1
+  pub pulse2 : n ≤ r2 + 1
+  pub wave : n * 2 ≤ r3 + 1
+
+pub near-of : (n r1 r2 r3 near : ℕ) → near ≡ least (least r1 r2) (r3 / 2) → (leb 1 n && leb n near) ≡ true → Near n r1 r2 r3
+near-of n r1 r2 r3 near e h =
+    let few : n ≤ near = leb-true n near (and-right (leb 1 n) _ h) in
+    let tones = least-first (least r1 r2) (r3 / 2) in
+    let third = least-second (least r1 r2) (r3 / 2) in
+    let first = least-first r1 r2 in
+    let second = least-second r1 r2 in
     record {
-      some = leb-true 1 n (and-left (leb 1 n) _ clocks);
-      pulse1 = omega arith;
-      pulse2 = omega arith;
-      wave = omega arith;
+      some = leb-true 1 n (and-left (leb 1 n) _ h);
+      pulse1 = omega (arith, few, e, tones, first);
+      pulse2 = omega (arith, few, e, tones, second);
+      wave = omega (arith, few, e, third);
     }
 
 -- the ranges of the unit's own

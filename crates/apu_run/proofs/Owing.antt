@@ -13,7 +13,7 @@ use Rattle.apu_run.specs.Working.{ranOf}
 use Rattle.apu_run.specs.Calls.{clocksBytes}
 use Rattle.apu_run.specs.Owed.{marked, fallen}
 use Rattle.apu_run.specs.declared.calls.Play.{Play}
-use Rattle.apu_run.specs.declared.calls.Divider.{Divider}
+use Rattle.log_records.specs.declared.divider.Divider.{Divider}
 use Rattle.apu_run.specs.declared.calls.Met.{Met}
 use Rattle.apu_run.proofs.Rows.{rows, rows-none}
 use Rattle.apu_run.proofs.Ranges.{Ready}

@@ -10,8 +10,9 @@ use Rattle.apu_clock.proofs.Ranges.{clock-held}
 use Rattle.apu_clock.proofs.Floats.{clock-floats}
 use Rattle.apu_run.specs.Working.{Take}
 use Rattle.apu_clock.specs.Clocking.{lent}
-use Rattle.apu_run.specs.Calls.{callBytes, callUnit, dividerAt, clocksBytes, afterClocks}
-use Rattle.apu_run.specs.declared.calls.Divider.{Divider}
+use Rattle.log_records.specs.Divider.{dividerAt}
+use Rattle.apu_run.specs.Calls.{callBytes, callUnit, clocksBytes, afterClocks}
+use Rattle.log_records.specs.declared.divider.Divider.{Divider}
 
 -- ---- a call keeps the ranges
 call-held : (d : Bool) (v : ℕ) (a : Apu) → Held a → Held (callUnit d v a)

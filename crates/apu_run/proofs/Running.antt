@@ -2,17 +2,18 @@
 use mathlib.Core.Path.{_≡_, refl, sym, ap, ap₂, _∙_}
 use mathlib.Core.List.{List, [], _++_}
 use Prim.Native.Nat.{ℕ, _+_, _-_, _*_, _^_, _≤_, _<_}
-use mathlib.Core.Bool.{Bool, true, false}
+use mathlib.Core.Bool.{Bool, true, false, _||_}
 use native.Mathlib.Nat.{add-zero, le-refl}
 use native.Mathlib.Omega.{arith}
-use lib.Dec.{T, leb, leb→le}
-use borrow.Author.Tests.{le-leb, lt-leb}
+use lib.Dec.{T, leb, ltb, leb→le}
+use borrow.Author.Tests.{le-leb, lt-leb, leb-false, ltb-false}
 use lib.ListN.{length, length-append}
 use lib.Seq.{sets, length-sets}
 use lib.Ieee.{Float}
 use Rattle.ground.specs.Iterate.{iterate}
 use Rattle.ground.specs.Pick.{pick}
 use Rattle.ground.proofs.Cases.{pick-true, pick-false}
+use Rattle.ground.proofs.Timers.{iterate-add}
 use Rattle.frame.specs.Mixing.{voiced, mixed}
 use Rattle.frame.proofs.Ranges.{stepped-held}
 use Rattle.frame.specs.Held.{unitsOfOne, fifth}
@@ -40,16 +41,18 @@ use Rattle.apu_run.specs.Working.{ranOf}
 use Rattle.apu_run.specs.Phases.{SettingsHeld, PhasesHeld, ConvertersHeld, settingsOf, phasesOf, convertersOf, phasesClocked}
 use Rattle.apu_run.specs.Parts.{behind}
 use Rattle.apu_run.specs.FrameStep.{frameStepOf}
-use Rattle.apu_run.specs.FrameSettings.{frameSettingsOf, FrameSettingsHeld, frameStepBy}
+use Rattle.apu_run.specs.FrameSettings.{frameSettingsOf, FrameSettingsHeld, levelsOf, frameStepBy, calmOf}
 use Rattle.apu_run.specs.declared.phases.Phases.{Phases}
 use Rattle.apu_run.specs.declared.phases.Settings.{Settings}
 use Rattle.apu_run.specs.declared.phases.Converters.{Converters}
 use Rattle.apu_run.specs.declared.frame_settings.FrameSettings.{FrameSettings}
+use Rattle.apu_run.specs.declared.levels.Levels.{Levels}
 use Rattle.apu_run.specs.declared.frame_step.FrameStep.{FrameStep}
 use Rattle.apu_run.proofs.Parts.{Point, pointClock, takeAt}
 use Rattle.apu_run.proofs.Rans.{pointParts, behind-ran}
 use Rattle.apu_run.proofs.FrameSteps.{by-frame-settings}
 use Rattle.apu_run.proofs.Moves.{moves-held}
+use Rattle.apu_run.proofs.Calm.{calm-levels}
 use Rattle.apu_run.proofs.FrameTurns.{grows, turn, rest}
 
 -- what a channel sounds is a nibble
@@ -110,6 +113,8 @@ pub record State : Type 0 where
   pub left : ℕ
   pub at : ℕ
   pub pending : ℕ
+  pub levels : Levels
+  pub known : ℕ
 
 -- so many clocks from a point whose channels have `waiting` clocks to come
 abbrev pub from : Settings → ℕ → ℕ → ℕ → Phases → Converters → List ℕ → Point
@@ -118,6 +123,14 @@ from s count ahead waiting m k l = iterate count (pointClock s) (units ahead, (i
 -- what comes to the whole
 abbrev whole : Task → Point
 whole r = from (r .settings) (r .count) (r .ahead) (r .waiting) (r .phases) (r .converters) []
+
+-- what goes into the converters so many clocks on
+abbrev levelsAfter : Task → ℕ → Phases → Levels
+levelsAfter r n m = levelsOf (r .frameSettings) (iterate n (phasesClocked (r .settings)) m) (r .settings .wave .buffer)
+
+-- it is known for so many clocks
+abbrev pub Seen : Task → Phases → Levels → ℕ → Type 0
+Seen r m l known = (n : ℕ) → n < known → levelsAfter r n m ≡ l
 
 pub record Running (r : Task) (s : State) : Type 0 where
   pub bytes : List ℕ
@@ -128,6 +141,7 @@ pub record Running (r : Task) (s : State) : Type 0 where
   pub below : s .units < K
   pub next : s .due ≡ awayOf (units (s .units))
   pub few : s .pending + s .left ≤ 32767
+  pub seen : Seen r (s .phases) (s .levels) (s .known)
   pub room : r .start + length (whole r .1 .2) ≤ length (r .out)
   pub place : s .at ≡ r .start + length bytes
   pub stored : s .out ≡ sets (r .out) (r .start) bytes
@@ -138,7 +152,7 @@ unfolding mixItem
 item-long m = refl
 
 -- ---- at the start
-pub running-first : {r : Task} {due : ℕ}
+pub running-first : {r : Task} {due : ℕ} {levels : Levels}
     → SettingsHeld (r .settings) → r .frameSettings ≡ frameSettingsOf (r .settings) → PhasesHeld (r .phases) → ConvertersHeld (r .converters)
     → r .ahead < K → due ≡ awayOf (units (r .ahead)) → r .waiting + r .count ≤ 32767 → r .start + length (whole r .1 .2) ≤ length (r .out)
     → Running r
@@ -151,6 +165,8 @@ pub running-first : {r : Task} {due : ℕ}
       left = r .count;
       at = r .start;
       pending = r .waiting;
+      levels = levels;
+      known = 0;
     })
 running-first {r} held te me ke xe de few room =
     record {
@@ -162,11 +178,15 @@ running-first {r} held te me ke xe de few room =
       below = xe;
       next = de;
       few = few;
+      seen = λ n l. absurd (never n l);
       room = room;
       place = sym (add-zero (r .start));
       stored = refl;
       same = refl;
     }
+  where
+    never : (n : ℕ) → n < 0 → ⊥
+    never n l = omega arith
 
 -- ---- at each turn
 module _ {r : Task} {s : State} (g : Running r s) where
@@ -244,16 +264,85 @@ pub record Framed (r : Task) (s : State) (m : Phases) (f : FrameStep) : Type 0 w
   pub due : s .due ≤ s .left
   pub is : f ≡ frameStepOf (r .settings) m (s .converters)
 
-pub framed-of : {r : Task} {s : State} {m : Phases} {f : FrameStep}
-    → Moved r s m → s .due ≤ s .left → f ≡ frameStepBy (r .frameSettings) m (s .converters) (r .settings .wave .buffer) → Framed r s m f
-framed-of {r} {s} {m} {f} v l fe =
+-- what moves where the frame is due
+abbrev moving : Task → State → Phases
+moving r s = iterate (s .pending + ahead s) (phasesClocked (r .settings)) (s .phases)
+
+-- the channels looked at, anew or before: what moves is `pending` clocks behind, and the levels are those of the frame
+pub record Looked (r : Task) (s : State) (m : Phases) (pending : ℕ) (l : Levels) (known : ℕ) : Type 0 where
+  pub running : Running r s
+  pub due : s .due ≤ s .left
+  pub held : PhasesHeld m
+  pub is : iterate pending (phasesClocked (r .settings)) m ≡ moving r s
+  pub few : pending ≤ s .pending + ahead s
+  pub levels : l ≡ levelsOf (r .frameSettings) (moving r s) (r .settings .wave .buffer)
+  pub seen : Seen r m l known
+
+-- a run is over where no frame comes
+pub not-over : (left due : ℕ) → ltb left due ≡ false → due ≤ left
+not-over left due e = ltb-false left due e
+
+pub looked-anew : {r : Task} {s : State} {m m' : Phases} {l l' : Levels} {pending calm known : ℕ} → Moved r s m → ltb (s .left) (s .due) ≡ false
+    → l ≡ levelsOf (r .frameSettings) m (r .settings .wave .buffer) → calm ≡ calmOf (r .settings) (r .frameSettings) m
+    → m' ≡ m → pending ≡ 0 → l' ≡ l → known ≡ calm + 1 → Looked r s m' pending l' known
+looked-anew {r} {s} {m} {m'} {l} {l'} {pending} {calm} {known} v d le ce me pe e ke = rw (me, pe, e, ke) looked
+  where
+    under : (n calm : ℕ) → n < calm + 1 → n ≤ calm
+    under n calm h = omega arith
+
+    looked : Looked r s m 0 l (calm + 1)
+    looked =
+        record {
+          running = v .running;
+          due = not-over (s .left) (s .due) d;
+          held = moved-held v;
+          is = unfold iterate in v .is;
+          few = omega arith;
+          levels = le ∙ ap (λ (x : Phases). levelsOf (r .frameSettings) x (r .settings .wave .buffer)) (v .is);
+          seen = λ n h. calm-levels (r .settings) (r .frameSettings) m (r .settings .wave .buffer) (moved-held v) n (rw (← ce) (under n calm h)) ∙ sym le;
+        }
+
+-- neither over nor unknown
+neither : (a b : Bool) → (a || b) ≡ false → (a ≡ false) × (b ≡ false)
+neither true b e = (e, absurd (let z : _≡_ {A = ℕ} 0 1 = cc in omega arith))
+neither false b e = (refl, e)
+
+pub looked-before : {r : Task} {s : State} {m : Phases} {l : Levels} {n pending known : ℕ} → Running r s → n ≡ ahead s
+    → (ltb (s .left) (s .due) || leb (s .known) (s .pending + n)) ≡ false
+    → m ≡ s .phases → pending ≡ s .pending + n → l ≡ s .levels → known ≡ s .known → Looked r s m pending l known
+looked-before {r} {s} {m} {l} {n} {pending} {known} g ne t me pe e ke = rw (me, pe, e, ke) looked
+  where
+    tests : (ltb (s .left) (s .due) ≡ false) × (leb (s .known) (s .pending + n) ≡ false)
+    tests = neither (ltb (s .left) (s .due)) (leb (s .known) (s .pending + n)) t
+
+    is : iterate (s .pending + n) (phasesClocked (r .settings)) (s .phases) ≡ moving r s
+    is = ap (λ (x : ℕ). iterate (s .pending + x) (phasesClocked (r .settings)) (s .phases)) ne
+
+    looked : Looked r s (s .phases) (s .pending + n) (s .levels) (s .known)
+    looked =
+        record {
+          running = g;
+          due = not-over (s .left) (s .due) (tests .0);
+          held = g .phases;
+          is = is;
+          few = omega (arith, ne);
+          levels =
+              sym (g .seen (s .pending + n) (leb-false (s .known) (s .pending + n) (tests .1)))
+              ∙ ap (λ (x : Phases). levelsOf (r .frameSettings) x (r .settings .wave .buffer)) is;
+          seen = g .seen;
+        }
+
+abbrev pub framed-of : {r : Task} {s : State} {m : Phases} {pending known : ℕ} {l : Levels} {f : FrameStep}
+    → Looked r s m pending l known → f ≡ frameStepBy (r .frameSettings) l (s .converters) → Framed r s (moving r s) f
+framed-of {r} {s} {l = l} {f = f} v fe =
     record {
-      moved = v;
-      due = l;
+      moved = record { running = v .running; is = refl };
+      due = v .due;
       is =
           fe
-          ∙ ap (λ (t : FrameSettings). frameStepBy t m (s .converters) (r .settings .wave .buffer)) (v .running .frameSettings)
-          ∙ by-frame-settings (r .settings) m (s .converters);
+          ∙ ap (λ (x : Levels). frameStepBy (r .frameSettings) x (s .converters)) (v .levels)
+          ∙ ap (λ (t : FrameSettings). frameStepBy t (levelsOf t (moving r s) (r .settings .wave .buffer)) (s .converters)) (v .running .frameSettings)
+          ∙ by-frame-settings (r .settings) (moving r s) (s .converters);
     }
 
 module _ {r : Task} {s : State} {m : Phases} {f : FrameStep} (v : Framed r s m f) where
@@ -269,14 +358,14 @@ module _ {r : Task} {s : State} {m : Phases} {f : FrameStep} (v : Framed r s m f
   bytes-long : length bytes ≡ length (before .bytes) + frameLength
   bytes-long = length-append (before .bytes) (mixItem (f .mix)) ∙ ap (λ (n : ℕ). length (before .bytes) + n) (item-long (f .mix))
 
+  to-due : ahead s ≡ s .due - 1
+  to-due = pick-true _ _ _ (le-leb (s .due) (s .left) (v .due))
+
   onward : from (r .settings) (s .left - s .due) later 1 m (f .converters) bytes ≡ whole r
   onward =
       let moved = v .moved .is ∙ ap (λ (n : ℕ). iterate (s .pending + n) (phasesClocked (r .settings)) (s .phases)) to-due in
       go (s .due) f (before .next) (v .due) moved (v .is)
     where
-      to-due : ahead s ≡ s .due - 1
-      to-due = pick-true _ _ _ (le-leb (s .due) (s .left) (v .due))
-
       go : (d : ℕ) (t : FrameStep) → d ≡ awayOf (units (s .units)) → d ≤ s .left → m ≡ iterate (s .pending + (d - 1)) (phasesClocked (r .settings)) (s .phases)
           → t ≡ frameStepOf (r .settings) m (s .converters)
           → from (r .settings) (s .left - d) (s .units + d * 2 ^ 48 - K) 1 m (t .converters) (before .bytes ++ mixItem (t .mix)) ≡ whole r
@@ -298,30 +387,59 @@ module _ {r : Task} {s : State} {m : Phases} {f : FrameStep} (v : Framed r s m f
       fits : (at start n w f a b : ℕ) → at ≡ start + n → w ≡ n + frameLength → w ≤ f → start + f ≤ a → b ≡ a → at + frameLength ≤ b
       fits at start n w f a b e h i j k = omega arith
 
-  pub running-on : {out : List ℕ} {x due : ℕ} → out ≡ sets (s .out) (s .at) (mixItem (f .mix)) → x ≡ later → due ≡ awayOf (units x)
-      → Running r
-      (record { out = out; phases = m; converters = f .converters; units = x; due = due; left = s .left - s .due; at = s .at + frameLength; pending = 1 })
-  running-on {out} {x} {due} oe xe de =
-      record {
-        bytes = bytes;
-        held = before .held;
-        frameSettings = before .frameSettings;
-        phases = moved-held (v .moved);
-        converters = rw (v .is) (frame-step-held (r .settings) m (s .converters) (before .held) (moved-held (v .moved)) (before .converters));
-        below = rw (xe, before .next) (after-below (s .units) (before .below));
-        next = de;
-        few = fewer (s .pending) (s .left) (s .due) (due-some before) (v .due) (before .few);
-        room = before .room;
-        place = placed (s .at) (r .start) (length (before .bytes)) (length bytes) (before .place) bytes-long;
-        stored =
-            oe
-            ∙ ap₂ (λ (y : List ℕ) (z : ℕ). sets y z (mixItem (f .mix))) (before .stored) (before .place)
-            ∙ sym (sets-append (r .out) (r .start) (before .bytes) (mixItem (f .mix)));
-        same = ap (λ (y : ℕ). from (r .settings) (s .left - s .due) y 1 m (f .converters) bytes) xe ∙ onward;
-      }
-    where
-      placed : (at start n w : ℕ) → at ≡ start + n → w ≡ n + frameLength → at + frameLength ≡ start + w
-      placed at start n w e h = omega arith
+-- and the loop goes on
+module _ {r : Task} {s : State} {m : Phases} {pending known : ℕ} {l : Levels} {f : FrameStep}
+    (looked : Looked r s m pending l known)
+    (fe : f ≡ frameStepBy (r .frameSettings) l (s .converters))
+  where
+    abbrev v : Framed r s (moving r s) f
+    v = framed-of looked fe
 
-      fewer : (pending left due : ℕ) → 0 < due → due ≤ left → pending + left ≤ 32767 → 1 + (left - due) ≤ 32767
-      fewer pending left due some l h = omega arith
+    abbrev g : Running r s
+    g = looked .running
+
+    -- the clock of the frame's own call comes after those that are still to come
+    one-more : iterate (pending + 1) (phasesClocked (r .settings)) m ≡ iterate 1 (phasesClocked (r .settings)) (moving r s)
+    one-more = iterate-add pending 1 (phasesClocked (r .settings)) m ∙ ap (iterate 1 (phasesClocked (r .settings))) (looked .is)
+
+    pub running-on : {out : List ℕ} {x due : ℕ} → out ≡ sets (s .out) (s .at) (mixItem (f .mix)) → x ≡ s .units + s .due * 2 ^ 48 - K → due ≡ awayOf (units x)
+        → Running r
+        (record {
+          out = out;
+          phases = m;
+          converters = f .converters;
+          units = x;
+          due = due;
+          left = s .left - s .due;
+          at = s .at + frameLength;
+          pending = pending + 1;
+          levels = l;
+          known = known;
+        })
+    running-on {out} {x} {due} oe xe de =
+        record {
+          bytes = bytes v;
+          held = g .held;
+          frameSettings = g .frameSettings;
+          phases = looked .held;
+          converters = rw (v .is) (frame-step-held (r .settings) (moving r s) (s .converters) (g .held) (moved-held (v .moved)) (g .converters));
+          below = rw (xe, g .next) (after-below (s .units) (g .below));
+          next = de;
+          few = fewer (s .pending) (s .left) (s .due) pending (due-some g) (looked .due) (rw (to-due v) at (looked .few)) (g .few);
+          seen = looked .seen;
+          room = g .room;
+          place = placed (s .at) (r .start) (length (g .bytes)) (length (bytes v)) (g .place) (bytes-long v);
+          stored =
+              oe
+              ∙ ap₂ (λ (y : List ℕ) (z : ℕ). sets y z (mixItem (f .mix))) (g .stored) (g .place)
+              ∙ sym (sets-append (r .out) (r .start) (g .bytes) (mixItem (f .mix)));
+          same =
+              ap₂ (λ (y : ℕ) (p : Phases). iterate (s .left - s .due) (pointClock (r .settings)) (units y, (p, f .converters, bytes v))) xe one-more
+              ∙ onward v;
+        }
+      where
+        placed : (at start n w : ℕ) → at ≡ start + n → w ≡ n + frameLength → at + frameLength ≡ start + w
+        placed at start n w e h = omega arith
+
+        fewer : (pending left due p : ℕ) → 0 < due → due ≤ left → p ≤ pending + (due - 1) → pending + left ≤ 32767 → p + 1 + (left - due) ≤ 32767
+        fewer pending left due p some l k h = omega arith

@@ -12,10 +12,11 @@ use Rattle.apu.specs.With.{withBit}
 use Rattle.apu_clock.specs.Sequencer.{bitOf}
 use Rattle.apu_clock.proofs.Untouched.{advances}
 use Rattle.apu_run.specs.Working.{Take, workingOn, ranOf}
-use Rattle.apu_run.specs.Calls.{dividerAt, clocksBytes, afterClocks}
+use Rattle.log_records.specs.Divider.{dividerAt}
+use Rattle.apu_run.specs.Calls.{clocksBytes, afterClocks}
 use Rattle.apu_run.specs.Owed.{OneBit, metOf, marked, fallen}
 use Rattle.apu_run.specs.declared.calls.Play.{Play}
-use Rattle.apu_run.specs.declared.calls.Divider.{Divider}
+use Rattle.log_records.specs.declared.divider.Divider.{Divider}
 use Rattle.apu_run.specs.declared.calls.Met.{Met}
 use Rattle.apu_run.proofs.Rows.{rows, rows-split}
 use Rattle.apu_run.proofs.Beats.{callBy}

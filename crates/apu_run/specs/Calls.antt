@@ -1,18 +1,18 @@
 -- The clock calls of a record: the bytes that they make and the unit after them, from document 01, "Steps of a clock call" and
 -- "The access log". Assumes nothing.
-use Prim.Native.Nat.{ℕ, zero, suc, _+_, _/_, _%_}
-use mathlib.Core.Bool.{Bool, false}
+use Prim.Native.Nat.{ℕ, zero, suc, _+_}
+use mathlib.Core.Bool.{Bool}
 use mathlib.Core.List.{List, [], _++_}
 use lib.ListN.{length}
-use Rattle.ground.specs.Pick.{pick}
 use Rattle.frame.specs.Buffers.{Buffers}
+use Rattle.log_records.specs.Divider.{dividerAt}
+use Rattle.log_records.specs.declared.divider.Divider.{Divider}
 use Rattle.log_items.specs.Items.{frameItem}
 use Rattle.apu_clock.specs.Clocking.{After, clockOf, lent}
 use Rattle.apu.specs.declared.Apu.{Apu}
 use Rattle.apu_clock.specs.declared.clock.Answer.{Answer}
 use Rattle.apu_clock.specs.declared.clock.Answer.the-variants.{Nothing, Frame, NoRoom}
 use Rattle.apu_run.specs.declared.calls.Play.{Play}
-use Rattle.apu_run.specs.declared.calls.Divider.{Divider}
 
 -- ---- a clock call
 
@@ -32,15 +32,6 @@ callBytes double divider a = answerBytes (called double divider a .clocked .answ
 
 unfoldable pub callUnit : Bool → ℕ → Apu → Apu
 callUnit double divider a = called double divider a .clocked .apu
-
--- the divider in call i of a record: where it stands, "that one divider", and every record of document 01 has one that stands (`standing`); where it runs,
--- "the byte plus (phase + i)/64 rounded down, modulo 256" of request 2026-02, which no record asks for yet
-unfoldable pub dividerAt : Divider → ℕ → ℕ
-dividerAt d i = pick (d .runs) ((d .byte + (d .phase + i) / 64) % 256) (d .byte)
-
--- that of a record with one divider for all of its calls
-abbrev pub standing : ℕ → Divider
-standing byte = record { byte = byte; phase = 0; runs = false }
 
 -- k calls of a record from call i on: the bytes, and the unit after them
 unfoldable pub clocksBytes : Bool → Divider → ℕ → ℕ → Apu → List ℕ

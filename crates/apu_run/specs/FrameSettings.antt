@@ -1,10 +1,10 @@
--- A frame in two halves: what a run's settings give to each of its frames, and the frame from those and from what moves, both arms of each choice worked
--- out. For the code and its proof alone: what a frame is, `frameStepOf` says (and that the two halves are it: `by-frame-settings` of
--- proofs/FrameSteps.antt). Assumes nothing.
+-- A frame in parts: what a run's settings give to each of its frames, the levels that those and what moves give, which stay while no channel steps, and the
+-- frame from both, all arms of each choice worked out. For the code and its proof alone: what a frame is, `frameStepOf` says (and that the parts are it:
+-- `by-frame-settings` of proofs/FrameSteps.antt). Assumes nothing.
 use Prim.Native.Nat.{ℕ, _+_, _-_, _*_, _/_, _%_, _^_, _≤_}
 use mathlib.Core.Bool.{Bool, not, _&&_}
 use mathlib.Core.List.{List}
-use lib.Dec.{eqb}
+use lib.Dec.{eqb, ltb}
 use lib.IntN.{pos}
 use lib.ListN.{getD}
 use lib.Ieee.{Float, binary32, ofInt, add, sub, mul, div}
@@ -14,13 +14,17 @@ use Rattle.frame.specs.Mixing.{f1, f5, f8, selectedOf, mixed}
 use Rattle.frame.specs.declared.converter.Converter.{Converter}
 use Rattle.frame.specs.declared.mixing.Voiced.{Voiced}
 use Rattle.channel_pulse.specs.Pulse as pulse
+use Rattle.channel_pulse.specs.declared.phase.PulsePhase.{PulsePhase}
 use Rattle.channel_wave.specs.Wave as wave
 use Rattle.channel_noise.specs.Noise as noise
+use Rattle.channel_noise.specs.declared.phase.NoisePhase.{NoisePhase}
+use Rattle.apu_run.specs.Phases.{least}
 use Rattle.apu_run.specs.declared.phases.Phases.{Phases}
 use Rattle.apu_run.specs.declared.phases.Settings.{Settings}
 use Rattle.apu_run.specs.declared.phases.Converters.{Converters}
 use Rattle.apu_run.specs.declared.frame_settings.Route.{Route}
 use Rattle.apu_run.specs.declared.frame_settings.FrameSettings.{FrameSettings}
+use Rattle.apu_run.specs.declared.levels.Levels.{Levels}
 use Rattle.apu_run.specs.declared.frame_step.FrameStep.{FrameStep}
 
 -- ---- once for a run
@@ -73,10 +77,23 @@ waveOutput shift position ram = nibbleAt position ram / 2 ^ shift
 abbrev pub noiseOutput : ℕ → ℕ → ℕ
 noiseOutput volume register = (1 - register % 2) * volume
 
--- an output through its converter to both sides
-unfoldable pub soundOf : Converter → ℕ → Route → Float → Float → Voiced
-soundOf d output route loudRight loudLeft =
-    let level = inOf output in
+-- what goes into each converter: "in = output/15"
+unfoldable pub levelsOf : FrameSettings → Phases → List ℕ → Levels
+levelsOf t m ram =
+    record {
+      pulse1 = inOf (pulseOutput (t .«pulse1_row») (t .«pulse1_volume») (m .pulse1 .«sequencer_position»));
+      pulse2 = inOf (pulseOutput (t .«pulse2_row») (t .«pulse2_volume») (m .pulse2 .«sequencer_position»));
+      wave = inOf (waveOutput (t .«wave_shift») (m .wave .«buffer_position») ram);
+      noise = inOf (noiseOutput (t .«noise_volume») (m .noise .«feedback_shift_register»));
+    }
+
+-- none yet
+abbrev pub noLevels : Levels
+noLevels = record { pulse1 = f0; pulse2 = f0; wave = f0; noise = f0 }
+
+-- a level through its converter to both sides
+unfoldable pub soundOf : Converter → Float → Route → Float → Float → Voiced
+soundOf d level route loudRight loudLeft =
     let out = sub binary32 level (d .capacitor) in
     let part = div binary32 out f8 in
     record {
@@ -88,17 +105,39 @@ soundOf d output route loudRight loudLeft =
           };
     }
 
-unfoldable pub frameStepBy : FrameSettings → Phases → Converters → List ℕ → FrameStep
-frameStepBy t m k ram =
-    let output1 = pulseOutput (t .«pulse1_row») (t .«pulse1_volume») (m .pulse1 .«sequencer_position») in
-    let output2 = pulseOutput (t .«pulse2_row») (t .«pulse2_volume») (m .pulse2 .«sequencer_position») in
-    let output3 = waveOutput (t .«wave_shift») (m .wave .«buffer_position») ram in
-    let output4 = noiseOutput (t .«noise_volume») (m .noise .«feedback_shift_register») in
-    let p = soundOf (k .pulse1) output1 (t .«pulse1_route») (t .«loud_right») (t .«loud_left») in
-    let q = soundOf (k .pulse2) output2 (t .«pulse2_route») (t .«loud_right») (t .«loud_left») in
-    let w = soundOf (k .wave) output3 (t .«wave_route») (t .«loud_right») (t .«loud_left») in
-    let n = soundOf (k .noise) output4 (t .«noise_route») (t .«loud_right») (t .«loud_left») in
+unfoldable pub frameStepBy : FrameSettings → Levels → Converters → FrameStep
+frameStepBy t l k =
+    let p = soundOf (k .pulse1) (l .pulse1) (t .«pulse1_route») (t .«loud_right») (t .«loud_left») in
+    let q = soundOf (k .pulse2) (l .pulse2) (t .«pulse2_route») (t .«loud_right») (t .«loud_left») in
+    let w = soundOf (k .wave) (l .wave) (t .«wave_route») (t .«loud_right») (t .«loud_left») in
+    let n = soundOf (k .noise) (l .noise) (t .«noise_route») (t .«loud_right») (t .«loud_left») in
     record {
       converters = record { pulse1 = p .converter; pulse2 = q .converter; wave = w .converter; noise = n .converter };
       mix = mixed (p .sides) (q .sides) (w .sides) (n .sides);
     }
+
+-- ---- how long levels stay
+-- an output stays until its timer is at 0, and where the step there changes nothing for one period more
+unfoldable pub calmBy : Bool → ℕ → ℕ → ℕ
+calmBy same timer reload = pick same (timer + (reload + 1)) timer
+
+-- a pulse without a first trigger stays for ever: here, for longer than a run
+unfoldable pub pulseCalm : Bool → ℕ → ℕ → PulsePhase → ℕ
+pulseCalm triggered row reload m =
+    let position = m .«sequencer_position» in
+    pick triggered (calmBy (eqb (pulseOutput row 1 ((position + 1) % 8)) (pulseOutput row 1 position)) (m .«frequency_timer») reload) 32767
+
+-- a step takes bit 1 of the register to bit 0
+unfoldable pub noiseCalm : ℕ → NoisePhase → ℕ
+noiseCalm reload m =
+    let register = m .«feedback_shift_register» in
+    calmBy (eqb (noiseOutput 1 (register / 2)) (noiseOutput 1 register)) (m .«frequency_timer») reload
+
+-- the clocks in which no channel's output changes; the wave's timer goes two a clock
+unfoldable pub calmOf : Settings → FrameSettings → Phases → ℕ
+calmOf s t m =
+    least
+    (least
+    (pulseCalm (s .pulse1 .«first_trigger») (t .«pulse1_row») (pulse.reloadOf (s .pulse1)) (m .pulse1))
+    (pulseCalm (s .pulse2 .«first_trigger») (t .«pulse2_row») (pulse.reloadOf (s .pulse2)) (m .pulse2)))
+    (least (m .wave .«frequency_timer» / 2) (noiseCalm (noise.reloadOf (s .noise)) (m .noise)))

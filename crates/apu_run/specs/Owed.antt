@@ -9,8 +9,8 @@ use Rattle.clocks.specs.Metered.{gained}
 use Rattle.apu.specs.With.{withClocks, withBit}
 use Rattle.apu_clock.specs.Sequencer.{bitOf, advanced}
 use Rattle.apu.specs.declared.Apu.{Apu}
-use Rattle.apu_run.specs.Calls.{dividerAt}
-use Rattle.apu_run.specs.declared.calls.Divider.{Divider}
+use Rattle.log_records.specs.Divider.{dividerAt}
+use Rattle.log_records.specs.declared.divider.Divider.{Divider}
 use Rattle.apu_run.specs.declared.calls.Met.{Met}
 
 -- how far "divider bit 4 (5 in double speed)" is from its next change, in calls, 64 of which are one of the divider

@@ -1,7 +1,6 @@
 -- What the working clocks of the four channels move, and what they leave as it is. Assumes nothing.
 use Prim.Native.Nat.{ℕ}
-use mathlib.Core.Bool.{Bool, _&&_}
-use lib.Dec.{leb}
+use lib.Dec.{ltb}
 use lib.Ieee.{Float}
 use Rattle.ground.specs.Pick.{pick}
 use Rattle.ground.specs.Iterate.{iterate}
@@ -81,9 +80,9 @@ tonesAfter s n m =
       wave = iterate n (wavePhaseClocked (wave.reloadOf (s .wave))) (m .wave);
     }
 
--- (for the code alone: whether their timers step once at most in 24 of them)
-abbrev pub slowOf : Settings → Bool
-slowOf s = leb (s .pulse1 .frequency) 2024 && (leb (s .pulse2 .frequency) 2024 && leb (s .wave .frequency) 2000)
+-- of two numbers the smaller
+unfoldable pub least : ℕ → ℕ → ℕ
+least a b = pick (ltb a b) a b
 
 -- a working clock of what moves: "With power off, stop", else "Clock pulse 1, pulse 2, wave, noise"
 unfoldable pub phasesClocked : Settings → Phases → Phases

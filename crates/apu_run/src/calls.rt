@@ -6,7 +6,7 @@ ghost use lib.ListN.{length};
 ghost use lib.Seq.{sets};
 ghost use Rattle.apu.specs.Held.{Held, FloatsHeld};
 ghost use Rattle.apu_run.specs.Working.{ranOf};
-ghost use Rattle.apu_run.specs.Calls.{dividerAt, clocksBytes, afterClocks, further};
+ghost use Rattle.apu_run.specs.Calls.{clocksBytes, afterClocks, further};
 ghost use Rattle.apu_run.specs.Owed.{changeOf, sameOf, OneBit, metOf, fallen};
 use crate::frames::rest;
 use crate::frames::silent;
@@ -16,29 +16,13 @@ use apu::Apu;
 use apu_clock::sequencer::advance;
 use apu_clock::sequencer::sequencer_bit;
 use clocks::sample_counter::half_clocks_of;
+use log_records::divider::Divider;
+use log_records::divider::divider_at;
 
 // The unit, and the place of the output's next byte.
 pub struct Play {
     pub apu: Apu,
     pub at: usize,
-}
-
-// The divider that the calls of a record see: its byte, which stands still, or runs on by 1 every 64 calls, `phase` of which are past.
-pub struct Divider {
-    pub byte: u8,
-    pub phase: u8,
-    pub runs: bool,
-}
-
-// The divider in call i of a record.
-pub fn divider_at(divider: Divider, i: u16) -> u8
-    ensures { λ r. ⌜ r ≡ dividerAt divider i ⌝ }
-{
-    if divider.runs {
-        ((divider.byte as u32 + (divider.phase as u32 + i as u32) / 64) % 256) as u8
-    } else {
-        divider.byte
-    }
 }
 
 // How far bit 4, in double speed bit 5, is from its next change, in calls: `place` is byte × 64 + phase + i.
@@ -52,18 +36,20 @@ fn until_change(double: bool, place: u32) -> u32
     }
 }
 
-// How many calls from call i on, of `count`, surely see the bit that call i sees.
-pub fn same_bit(double: bool, divider: Divider, i: u16, count: u16) -> u16
+// How many calls from call i on, of `count`, surely see the bit that call i sees. (Numbers of 32 bits, since those of 16 are masked at every use: records of
+// one call took a quarter longer with them.)
+pub fn same_bit(double: bool, divider: Divider, i: u32, count: u32) -> u32
+    requires { ⌜ i ≤ 65535 ⌝ }
     requires { ⌜ 1 ≤ count ⌝ }
     ensures { λ r. ⌜ r ≡ sameOf double divider i count ⌝ }
     ensures { λ r. ⌜ (1 ≤ r) × (r ≤ count) ⌝ }
     ensures { λ r. ⌜ OneBit double divider i r ⌝ }
 {
     if divider.runs {
-        let place = divider.byte as u32 * 64 + divider.phase as u32 + i as u32;
+        let place = divider.byte as u32 * 64 + divider.phase as u32 + i;
         let some = until_change(double, place);
-        if some < count as u32 {
-            return some as u16;
+        if some < count {
+            return some;
         }
         return count;
     }
@@ -79,12 +65,12 @@ pub struct Met {
     pub stored: bool,
 }
 
-pub fn meet(half: u8, power: bool, stored: bool, double: bool, bit: bool, count: u16) -> Met
+pub fn meet(half: u8, power: bool, stored: bool, double: bool, bit: bool, count: u32) -> Met
     requires { ⌜ half ≤ 1 ⌝ }
     requires { ⌜ count ≤ 16384 ⌝ }
     ensures { λ r. ⌜ r ≡ metOf half power stored double bit count ⌝ }
 {
-    let halves = half as u32 + half_clocks_of(double, count as u32);
+    let halves = half as u32 + half_clocks_of(double, count);
     let working = halves / 2;
     let seen = power & (working != 0);
     Met {
@@ -157,8 +143,8 @@ pub fn play_clocks(
     let mut owed = 0u32;
     let mut i = from;
     while i < to {
-        let some = same_bit(double, divider, i, to - i);
-        let bit = sequencer_bit(double, divider_at(divider, i));
+        let some = same_bit(double, divider, i as u32, (to - i) as u32);
+        let bit = sequencer_bit(double, divider_at(divider, i as u32));
         let met = meet(
             apu.clocks_counter,
             apu.power,
@@ -168,7 +154,7 @@ pub fn play_clocks(
             some,
         );
         apu.clocks_counter = met.half;
-        i += some;
+        i += some as u16;
         if met.fell {
             let q = fall(Play { apu, at: place }, owed + 1, out);
             apu = q.apu;

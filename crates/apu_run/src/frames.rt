@@ -9,9 +9,12 @@ ghost use Rattle.ground.specs.Pick.{pick};
 ghost use Rattle.clocks.specs.Calls.{K};
 ghost use Rattle.apu.specs.Held.{Held, FloatsHeld};
 ghost use Rattle.apu_run.specs.Working.{ranOf};
-ghost use Rattle.apu_run.specs.Parts.{silentOf, behind, partsOf};
+ghost use Rattle.apu_run.specs.Parts.{handedBack, silentOf, behind, partsOf};
 use crate::frame_settings::frame_settings_of;
 use crate::frame_step::step_frame;
+use crate::levels::calm_of;
+use crate::levels::levels_of;
+use crate::levels::no_levels;
 use crate::phases::Converters;
 use crate::phases::Phases;
 use crate::phases::converters_of;
@@ -33,6 +36,17 @@ pub struct Parts {
     pub converters: Converters,
     pub counter: f64,
     pub at: usize,
+}
+
+fn hand_back(phases: Phases, converters: Converters, counter: f64, at: usize) -> Parts
+    ensures { λ r. ⌜ r ≡ handedBack phases converters counter at ⌝ }
+{
+    Parts {
+        phases,
+        converters,
+        counter,
+        at,
+    }
 }
 
 // The channels' clocks before the frame that is due, or those that are left where it does not come.
@@ -73,26 +87,33 @@ fn sound_from(
     let mut due = until(units);
     let mut left = count;
     let mut at = start;
-    // after a frame 1: the channels' clock of the frame's own call comes after the frame
+    // the channels' clocks that are still to come; the clock of a frame's own call comes after the frame
     let mut pending = waiting;
+    // what goes into the converters, and for how many clocks that is known: at first for none
+    let mut levels = no_levels();
+    let mut known = 0u32;
     loop {
-        phases = phases.advance(settings, pending + before_frame(due, left));
-        if left < due {
-            let counter = counter_of(later(units, left));
-            return Parts {
-                phases,
-                converters,
-                counter,
-                at,
-            };
+        let clocks = pending + before_frame(due, left);
+        let over = left < due;
+        if over | (known <= clocks) {
+            phases = phases.advance(settings, clocks);
+            if over {
+                let counter = counter_of(later(units, left));
+                return hand_back(phases, converters, counter, at);
+            }
+            levels = levels_of(frame_settings, phases, &ram);
+            known = calm_of(settings, frame_settings, phases) + 1;
+            pending = 0;
+        } else {
+            pending = clocks;
         }
-        let step = step_frame(frame_settings, phases, converters, &ram);
+        let step = step_frame(frame_settings, levels, converters);
         put_mix(out, at, step.mix);
         converters = step.converters;
         at += FRAME_BYTES;
         units = past_frame(units, due);
         left -= due;
-        pending = 1;
+        pending += 1;
         due = until(units);
     }
 }

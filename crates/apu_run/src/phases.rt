@@ -1,13 +1,13 @@
 // The unit in three parts: what a run leaves as it is, what moves with each clock, what moves with each frame. Small records go through a loop faster than
 // the unit.
 ghost use mathlib.Core.Path.{_≡_};
-ghost use Prim.Native.Nat.{_≤_};
+ghost use Prim.Native.Nat.{_≤_, _/_};
 ghost use Rattle.ground.specs.Iterate.{iterate};
 ghost use Rattle.apu.specs.Held.{Held};
 ghost use Rattle.channel_pulse.specs.Phase.{PulsePhaseHeld};
 ghost use Rattle.channel_wave.specs.Phase.{WavePhaseHeld};
 ghost use Rattle.channel_noise.specs.Phase.{NoisePhaseHeld};
-ghost use Rattle.apu_run.specs.Phases.{SettingsHeld, PhasesHeld, settingsOf, phasesOf, convertersOf, slowOf, tonesAfter, phasesClocked};
+ghost use Rattle.apu_run.specs.Phases.{SettingsHeld, PhasesHeld, settingsOf, phasesOf, convertersOf, least, tonesAfter, phasesClocked};
 ghost use Rattle.apu_run.specs.Phases.{pulseWith, waveWith, noiseWith, putBack};
 use apu::Apu;
 use channel_groups::noise_group::NoiseGroup;
@@ -104,18 +104,20 @@ pub fn converters_of(unit: Apu) -> Converters
     }
 }
 
-// Whether no timer of the pulses and the wave comes round twice in 24 clocks, as far as two frames lie apart: periods of 24, and of 48 half-clocks.
-fn slow(settings: Settings) -> bool
-    ensures { λ r. ⌜ r ≡ slowOf settings ⌝ }
+pub fn smaller(a: u32, b: u32) -> u32
+    ensures { λ r. ⌜ r ≡ least a b ⌝ }
 {
-    let pulse1 = settings.pulse1;
-    let pulse2 = settings.pulse2;
-    let wave = settings.wave;
-    (pulse1.frequency <= 2024) & ((pulse2.frequency <= 2024) & (wave.frequency <= 2000))
+    if a < b { a } else { b }
 }
 
-// The pulses and the wave after so many working clocks with power on. From frame to frame they mostly go without a jump: that is worth a tenth of a frame,
-// or a fifth with all timers slow.
+// So many clocks at least are between two steps of each, by what their timers reload to; the wave's goes two a clock.
+fn near(reload1: u32, reload2: u32, reload3: u32) -> u32
+    ensures { λ r. ⌜ r ≡ least (least reload1 reload2) (reload3 / 2) ⌝ }
+{
+    smaller(smaller(reload1, reload2), reload3 / 2)
+}
+
+// The pulses and the wave after so many working clocks with power on. Where none steps twice they go without a jump.
 fn advance_tones(phases: Phases, settings: Settings, n: u32) -> TonePhases
     requires { ⌜ PhasesHeld phases ⌝ }
     requires { ⌜ SettingsHeld settings ⌝ }
@@ -131,7 +133,7 @@ fn advance_tones(phases: Phases, settings: Settings, n: u32) -> TonePhases
     let reload1 = first.reload() as u32;
     let reload2 = second.reload() as u32;
     let reload3 = third.reload() as u32;
-    if slow(settings) & ((1 <= n) & (n <= 24)) {
+    if (1 <= n) & (n <= near(reload1, reload2, reload3)) {
         return TonePhases {
             pulse1: pulse1.advance_near(first.first_trigger, reload1, n),
             pulse2: pulse2.advance_near(second.first_trigger, reload2, n),

@@ -6,7 +6,7 @@ use mathlib.Core.Bool.{Bool, true, false, _&&_}
 use mathlib.Core.List.{List, [], _++_, append-nil}
 use native.Mathlib.Nat.{zero-add, le-of-eq}
 use native.Mathlib.Omega.{arith}
-use lib.ListN.{length, getD, drop, drop-of-length-le}
+use lib.ListN.{length, getD, drop, drop-of-length-le, length-append}
 use lib.Dec.{ltb}
 use lib.Seq.{sets, sets-eq}
 use borrow.Author.Tests.{le-ltb}
@@ -14,17 +14,21 @@ use Rattle.ground.specs.Pick.{pick}
 use Rattle.ground.proofs.Cases.{pick-holds}
 use Rattle.apu.specs.Held.{Whole}
 use Rattle.apu.specs.declared.Apu.{Apu}
-use Rattle.log_records.specs.Records.{recordsFrom, listed}
+use Rattle.log_records.specs.Records.{versionOf, recordsOf, listed}
+use Rattle.log_records.specs.declared.judge.Record.{Record}
 use Rattle.log_scan.specs.Scan.{wrongIn, summed, added}
 use Rattle.log_scan.specs.Answers.{isDone, tooLong, doneAs, orWrong, scannedAs, withinRoom}
 use Rattle.log_scan.specs.declared.answer.LogAnswer.{LogAnswer}
 use Rattle.log_scan.specs.declared.answer.LogAnswer.the-variants.{Done, TooLong, BadStart, WrongRecord, TooShort}
+use Rattle.log_scan.specs.declared.scan.Sums.{Sums}
 use Rattle.log_scan.specs.declared.scan.Mark.{Mark}
 use Rattle.log_scan.specs.declared.scan.Mark.the-variants.{Clear, At}
+use Rattle.log_scan.proofs.Counting.{summed-append}
 use Rattle.log_scan.proofs.Done.{done-clear}
 use Rattle.log_player.specs.Playing.{unitOfStart, output, unitAtEnd}
 use Rattle.log_player.specs.Frames.{madeBy}
 use Rattle.log_player.specs.Logs.{answerOn, answerOf, bytesOfLog}
+use Rattle.log_player.proofs.Appending.{unitAtEnd-append, output-append, madeBy-append}
 use Rattle.log_player.proofs.Appending.{unitAtEnd-held, listed-bytes, output-join, answer-join, unitAtEnd-join}
 use Rattle.log_player.proofs.Frames.{start-ready}
 use Rattle.image_fields.specs.Bytes.{stored}
@@ -39,7 +43,7 @@ use Rattle.image_laws.proofs.Whole.{unit-long}
 use Rattle.image_player.specs.Playing.{answerKept, answerFrom, afterKept, afterFrom}
 use Rattle.image_player.specs.declared.answer.ImageAnswer.{ImageAnswer}
 use Rattle.image_player.specs.declared.answer.ImageAnswer.the-variants.{WrongImage, Log, NoRoomForImage}
-use Rattle.image_chains.specs.Chains.{Counts, doneWith, plus, oneLog, unitOf, Links, Chained, Chains}
+use Rattle.image_chains.specs.Chains.{Counts, doneWith, plus, oneLog, unitOf, Links, countsOf, Followed, Chained, Chains}
 
 -- ---- from an answer to what it is made of
 logIn : ImageAnswer → LogAnswer
@@ -78,7 +82,7 @@ module _ (room n f : ℕ) (s : List ℕ) where
 
   done-is : Is (scannedAs n f s)
   unfolding scannedAs withinRoom
-  done-is = pick-holds Is _ _ _ (λ _ d. cc) (λ _. pick-holds Is _ _ _ (λ _ d. cc) (λ _. marked (wrongIn (recordsFrom s 2))))
+  done-is = pick-holds Is _ _ _ (λ _ d. cc) (λ _. pick-holds Is _ _ _ (λ _ d. cc) (λ _. marked (wrongIn (recordsOf s))))
 
 -- the numbers of two answers that are done
 addedTo : ℕ → ℕ → ℕ → ℕ → LogAnswer → LogAnswer
@@ -94,6 +98,26 @@ sumOf TooLong b = TooLong
 sumOf BadStart b = BadStart
 sumOf (WrongRecord place) b = WrongRecord place
 sumOf (TooShort needed) b = TooShort needed
+
+-- the numbers of an answer that is done
+countsIn : LogAnswer → Counts
+countsIn (Done w f c r) = record { bytes = w; frames = f; calls = c; records = r }
+countsIn TooLong = record { bytes = 0; frames = 0; calls = 0; records = 0 }
+countsIn BadStart = record { bytes = 0; frames = 0; calls = 0; records = 0 }
+countsIn (WrongRecord place) = record { bytes = 0; frames = 0; calls = 0; records = 0 }
+countsIn (TooShort needed) = record { bytes = 0; frames = 0; calls = 0; records = 0 }
+
+-- those of two rows, the second on the unit that the first leaves
+abbrev tell : ℕ → ℕ → Sums → Counts
+tell bytes frames sums = record { bytes = bytes; frames = frames; calls = sums .calls; records = sums .records }
+
+counts-append : (xs ys : List Record) (u : Apu)
+    → let v = unitAtEnd xs u in
+    tell (length (output xs u) + length (output ys v)) (madeBy xs u + madeBy ys v) (added (summed xs) (summed ys)) ≡ countsOf (xs ++ ys) u
+counts-append xs ys u =
+    let v = unitAtEnd xs u in
+    let bytes = ap length (output-append xs ys u) ∙ length-append (output xs u) (output ys v) in
+    sym (ap₂ (λ (b f : ℕ). tell b f (summed (xs ++ ys))) bytes (madeBy-append xs ys u) ∙ ap (tell _ _) (summed-append xs ys))
 
 -- ---- what is kept is the image of the unit after the log
 all-stored : (l xs : List ℕ) → length l ≡ length xs → stored l 0 xs ≡ xs
@@ -129,7 +153,7 @@ module _ (s a place : List ℕ) (room : ℕ) (taken : isTaken s ≡ true) (ended
       low b i = let h = b i in omega (arith, h)
 
 -- ---- a chain of two
-module _ (s a b place : List ℕ) (room more wide : ℕ) (m n : Counts) (links : Links s a b place room more m n) where
+module _ (s a b place : List ℕ) (room more : ℕ) (m n : Counts) (links : Links s a b place room more m n) where
   abbrev u : Apu
   u = unitOf s
 
@@ -167,7 +191,10 @@ module _ (s a b place : List ℕ) (room more wide : ℕ) (m n : Counts) (links :
   unfolding logIn
   done-b = ap isDone answer-b
 
-  clear-b : wrongIn (recordsFrom b 2) ≡ Clear
+  done-kept : isDone (answerOn (unitOf kept) b more) ≡ true
+  done-kept = ap (λ (w : Apu). isDone (answerOn w b more)) taken-up ∙ done-b
+
+  clear-b : wrongIn (recordsOf b) ≡ Clear
   clear-b = done-clear more (length (output (listed b) v)) (madeBy (listed b) v) b done-b
 
   sum : sumOf (answerOn u a room) (answerOn v b more)
@@ -178,11 +205,37 @@ module _ (s a b place : List ℕ) (room more wide : ℕ) (m n : Counts) (links :
       ap₂ sumOf (done-is room (length (output (listed a) u)) (madeBy (listed a) u) a done-a)
       (done-is more (length (output (listed b) v)) (madeBy (listed b) v) b done-b)
 
-  module _ (short : length (oneLog a b) ≤ 65536) (enough : m .bytes + n .bytes ≤ wide) where
+  -- ---- whatever their versions: the records of both in one row
+  followed : Followed s a b kept more m n
+  followed = record { counts = counts; output = out; image = image }
+    where
+      row : List Record
+      row = listed a ++ listed b
+
+      both-told : logIn (doneWith (plus m n)) ≡ sumOf (answerOn u a room) (answerOn v b more)
+      both-told = unfold logIn sumOf addedTo in sym (ap₂ sumOf answer-a answer-b)
+
+      told-counts : plus m n
+          ≡ tell (length (output (listed a) u) + length (output (listed b) v)) (madeBy (listed a) u + madeBy (listed b) v)
+          (added (summed (listed a)) (summed (listed b)))
+      told-counts = unfold countsIn logIn in ap countsIn (both-told ∙ sum)
+
+      counts : plus m n ≡ countsOf row u
+      counts = told-counts ∙ counts-append (listed a) (listed b) u
+
+      out : output row u ≡ output (listed a) u ++ output (listed b) (unitOf kept)
+      out = output-append (listed a) (listed b) u ∙ ap (λ (w : Apu). output (listed a) u ++ output (listed b) w) (sym taken-up)
+
+      image : (after : List ℕ) → afterFrom kept b more after ≡ savedIn (unitAtEnd row u) after
+      image after =
+          after-is kept b after more taken-again done-kept after
+          ∙ ap (λ (w : Apu). savedIn w after) (ap (unitAtEnd (listed b)) taken-up ∙ sym (unitAtEnd-append (listed a) (listed b) u))
+
+  module _ (wide : ℕ) (same : versionOf b ≡ versionOf a) (short : length (oneLog a b) ≤ 65536) (enough : m .bytes + n .bytes ≤ wide) where
     answer-both : answerOn u (oneLog a b) wide ≡ logIn (doneWith (plus m n))
     unfolding logIn sumOf addedTo withinRoom pick
     answer-both =
-        answer-join u a b room done-a wide (le-ltb 65536 (length (oneLog a b)) short) clear-b
+        answer-join u a b same room done-a wide (le-ltb 65536 (length (oneLog a b)) short) clear-b
         ∙ ap (withinRoom wide) (sym sum ∙ ap₂ sumOf answer-a answer-b)
         ∙ rw (le-ltb wide (m .bytes + n .bytes) enough)
 
@@ -197,13 +250,13 @@ module _ (s a b place : List ℕ) (room more wide : ℕ) (m n : Counts) (links :
         answer = unfold answerFrom answerKept pick logIn in rw (taken, answer-both)
 
         out : output (listed (oneLog a b)) u ≡ output (listed a) u ++ output (listed b) (unitOf kept)
-        out = output-join u a b room done-a ∙ ap (λ (w : Apu). output (listed a) u ++ output (listed b) w) (sym taken-up)
+        out = output-join u a b same room done-a ∙ ap (λ (w : Apu). output (listed a) u ++ output (listed b) w) (sym taken-up)
 
         image : (after : List ℕ) → afterFrom s (oneLog a b) wide after ≡ afterFrom kept b more after
         image after =
             after-is s (oneLog a b) after wide taken done-both after
-            ∙ ap (λ (w : Apu). savedIn w after) (unitAtEnd-join u a b room done-a ∙ ap (unitAtEnd (listed b)) (sym taken-up))
-            ∙ sym (after-is kept b after more taken-again (ap (λ (w : Apu). isDone (answerOn w b more)) taken-up ∙ done-b) after)
+            ∙ ap (λ (w : Apu). savedIn w after) (unitAtEnd-join u a b same room done-a ∙ ap (unitAtEnd (listed b)) (sym taken-up))
+            ∙ sym (after-is kept b after more taken-again done-kept after)
 
 -- ---- a chain's beginning
 fresh-taken : (byte : ℕ) → takenOf (unitBytes (unitOfStart byte)) ≡ record { answer = image.Done; apu = unitOfStart byte }
@@ -223,7 +276,8 @@ pub chains : Chains
 unfolding answerFrom answerKept pick
 chains =
     record {
-      chain = λ s a b place room more wide m n links short enough. chained s a b place room more wide m n links short enough;
+      follow = λ s a b place room more m n links. followed s a b place room more m n links;
+      chain = λ s a b place room more wide m n links same short enough. chained s a b place room more m n links wide same short enough;
       fresh-answer =
           λ log room. let byte = getD log 1 0 in
           rw (fresh-is byte)

@@ -12,6 +12,7 @@ use image::keep::write_image;
 use image::layout::IMAGE_BYTES;
 use log_player::log::answer_on;
 use log_player::play::play_list;
+use log_records::cut::version_of;
 use log_scan::answer::is_done;
 
 // Plays a log on a unit, and writes the image of the unit after it. The log is answered first and the place for the image looked at next, so that a refusal
@@ -29,7 +30,7 @@ pub fn play_kept(apu: Apu, log: &[u8], out: &mut [u8], after: &mut [u8]) -> Imag
                 needed: IMAGE_BYTES as u64,
             };
         }
-        let played = play_list(Play { apu, at: 0 }, log, out);
+        let played = play_list(Play { apu, at: 0 }, version_of(log), log, out);
         write_image(played.apu, after);
         return ImageAnswer::Log { answer };
     }

@@ -13,14 +13,13 @@ use Rattle.apu.specs.Held.{Held, FloatsHeld}
 use Rattle.apu.specs.declared.Apu.{Apu}
 use Rattle.apu.proofs.Ranges.{write-held}
 use Rattle.apu.proofs.Floats.{write-floats}
-use Rattle.apu_run.specs.Calls.{standing}
 use Rattle.apu_run.proofs.Rows.{clocks-held, clocks-floats}
 use Rattle.log_records.specs.declared.judge.Record.{Record}
 use Rattle.log_records.specs.declared.judge.Record.the-variants.{Write, Read, Clock, Pcm, Wrong}
 use Rattle.log_records.specs.declared.cut.Cut.{Cut}
 use Rattle.log_records.specs.declared.cut.Cut.the-variants.{End, Short, Body}
 use Rattle.log_records.specs.Judge.{writeOf, readOf, clockOf, pcmOf, judgeOf}
-use Rattle.log_records.specs.Records.{Parsed, cutAt, bodyAt, grow, parse, recordsFrom, unrolled, listed}
+use Rattle.log_records.specs.Records.{Parsed, cutAt, bodyAt, grow, parse, recordsFrom, unrolled, versionOf, recordsOf, listed}
 use Rattle.log_records.proofs.Joining.{getD-drop}
 use Rattle.log_scan.specs.declared.scan.Mark.the-variants.{Clear}
 use Rattle.log_scan.specs.Scan.{wrongIn, summed, added}
@@ -68,7 +67,7 @@ pub data ByteValues : List Record → Type 0 where
 after-held : (r : Record) (a : Apu) → valueIn r ≤ 255 → Held a × FloatsHeld a → Held (unitAfter r a) × FloatsHeld (unitAfter r a)
 after-held (Write addr value) a v h = (write-held a addr value v (h .0), write-floats a addr value (h .1))
 after-held (Read addr) a v h = h
-after-held (Clock d v k) a _ h = (clocks-held d (standing v) 0 k a (h .0), clocks-floats d (standing v) 0 k a (h .0) (h .1))
+after-held (Clock d v k) a _ h = (clocks-held d v 0 k a (h .0), clocks-floats d v 0 k a (h .0) (h .1))
 after-held Pcm a v h = h
 after-held Wrong a v h = h
 
@@ -93,9 +92,9 @@ body-bytes s at n h = take-bytes n (drop (at + 2) s) (λ i. rw (getD-drop (at + 
 abbrev Low : Record → Type 0
 Low r = valueIn r ≤ 255
 
-judged-byte : (s : List ℕ) → AllBytes s → Low (judgeOf s)
+judged-byte : (v : ℕ) (s : List ℕ) → AllBytes s → Low (judgeOf v s)
 unfolding judgeOf writeOf readOf clockOf pcmOf
-judged-byte s h =
+judged-byte v s h =
     let none : 0 ≤ 255 = omega arith in
     both-ways Low _ none
     (both-ways Low _ (both-ways Low _ (both-ways Low _ (h 3) none) none)
@@ -103,31 +102,32 @@ judged-byte s h =
     (both-ways Low _ (both-ways Low _ (both-ways Low _ none none) none)
     (both-ways Low _ (both-ways Low _ none none) none))))
 
-first-bytes : (s : List ℕ) (at : ℕ) (rest : ℕ → Parsed) (c : Cut) → AllBytes s
-    → ((n : ℕ) → ByteValues (unrolled (rest (at + 2 + n)))) → ByteValues (unrolled (grow s at rest c))
-first-bytes s at rest End h more = end
-first-bytes s at rest Short h more = end
-first-bytes s at rest (Body n) h more = judged-byte (bodyAt s at n) (body-bytes s at n h) then more n
+first-bytes : (v : ℕ) (s : List ℕ) (at : ℕ) (rest : ℕ → Parsed) (c : Cut) → AllBytes s
+    → ((n : ℕ) → ByteValues (unrolled (rest (at + 2 + n)))) → ByteValues (unrolled (grow v s at rest c))
+first-bytes v s at rest End h more = end
+first-bytes v s at rest Short h more = end
+first-bytes v s at rest (Body n) h more = judged-byte v (bodyAt s at n) (body-bytes s at n h) then more n
 
-parsed-bytes : (n : ℕ) (s : List ℕ) (at : ℕ) → AllBytes s → ByteValues (unrolled (parse n s at))
+parsed-bytes : (v n : ℕ) (s : List ℕ) (at : ℕ) → AllBytes s → ByteValues (unrolled (parse v n s at))
 unfolding parse
-parsed-bytes zero s at h = end
-parsed-bytes (suc n) s at h = first-bytes s at (parse n s) (cutAt s at) h (λ k. parsed-bytes n s (at + 2 + k) h)
+parsed-bytes v zero s at h = end
+parsed-bytes v (suc n) s at h = first-bytes v s at (parse v n s) (cutAt s at) h (λ k. parsed-bytes v n s (at + 2 + k) h)
 
 pub listed-bytes : (s : List ℕ) → AllBytes s → ByteValues (listed s)
 unfolding recordsFrom
-listed-bytes s h = parsed-bytes (length s) s 2 h
+listed-bytes s h = parsed-bytes (versionOf s) (length s) s 2 h
 
--- ---- one log after another: the records of a log that was done, and then those of another on the unit that they leave, are those of both in one log
-module _ (a : Apu) (s t : List ℕ) (room : ℕ) (done : isDone (answerOn a s room) ≡ true) where
+-- ---- one log after another of its version: the records of a log that was done, and then those of the other on the unit that they leave, are those of both in
+-- one log
+module _ (a : Apu) (s t : List ℕ) (same : versionOf t ≡ versionOf s) (room : ℕ) (done : isDone (answerOn a s room) ≡ true) where
   good : 2 ≤ length s
   good = done-long room (length (output (listed s) a)) (madeBy (listed s) a) s done
 
-  whole : wrongIn (recordsFrom s 2) ≡ Clear
+  whole : wrongIn (recordsOf s) ≡ Clear
   whole = done-clear room (length (output (listed s) a)) (madeBy (listed s) a) s done
 
   both : listed (s ++ drop 2 t) ≡ listed s ++ listed t
-  both = clear-listed-join s t good whole
+  both = clear-listed-join s t good same whole
 
   pub output-join : output (listed (s ++ drop 2 t)) a ≡ output (listed s) a ++ output (listed t) (unitAtEnd (listed s) a)
   output-join = ap (λ (l : List Record). output l a) both ∙ output-append (listed s) (listed t) a
@@ -135,13 +135,13 @@ module _ (a : Apu) (s t : List ℕ) (room : ℕ) (done : isDone (answerOn a s ro
   pub madeBy-join : madeBy (listed (s ++ drop 2 t)) a ≡ madeBy (listed s) a + madeBy (listed t) (unitAtEnd (listed s) a)
   madeBy-join = ap (λ (l : List Record). madeBy l a) both ∙ madeBy-append (listed s) (listed t) a
 
-  passes : tooLong (s ++ drop 2 t) ≡ false → wrongIn (recordsFrom t 2) ≡ Clear
+  passes : tooLong (s ++ drop 2 t) ≡ false → wrongIn (recordsOf t) ≡ Clear
       → (n f : ℕ) → scannedAs n f (s ++ drop 2 t) ≡ doneAs n f (summed (listed (s ++ drop 2 t)))
   unfolding scannedAs pick
-  passes short clear n f = rw (short, start-join s (drop 2 t) good ∙ done-start room _ _ s done, clear-join s t good whole clear)
+  passes short clear n f = rw (short, start-join s (drop 2 t) good ∙ done-start room _ _ s done, clear-join s t good same whole clear)
 
   -- and what both in one log are answered, where it is not too long: the bytes, frames, clock calls and records of both
-  pub answer-join : (wide : ℕ) → tooLong (s ++ drop 2 t) ≡ false → wrongIn (recordsFrom t 2) ≡ Clear
+  pub answer-join : (wide : ℕ) → tooLong (s ++ drop 2 t) ≡ false → wrongIn (recordsOf t) ≡ Clear
       → let b = unitAtEnd (listed s) a in
       answerOn a (s ++ drop 2 t) wide
       ≡ withinRoom wide
@@ -153,7 +153,7 @@ module _ (a : Apu) (s t : List ℕ) (room : ℕ) (done : isDone (answerOn a s ro
       ap (withinRoom wide)
       (passes short clear _ _
       ∙ ap₂ (λ (n f : ℕ). doneAs n f (summed (listed (s ++ drop 2 t)))) bytes madeBy-join
-      ∙ ap (doneAs (length (output (listed s) a) + length (output (listed t) b)) (madeBy (listed s) a + madeBy (listed t) b)) (sums-join s t good whole))
+      ∙ ap (doneAs (length (output (listed s) a) + length (output (listed t) b)) (madeBy (listed s) a + madeBy (listed t) b)) (sums-join s t good same whole))
 
   pub unitAtEnd-join : unitAtEnd (listed (s ++ drop 2 t)) a ≡ unitAtEnd (listed t) (unitAtEnd (listed s) a)
   unitAtEnd-join = ap (λ (l : List Record). unitAtEnd l a) both ∙ unitAtEnd-append (listed s) (listed t) a

@@ -1,11 +1,14 @@
 -- The record at a place: where its body ends, and the write to one group's registers that it may be. For the code of `play_list` and its proof alone: what a
 -- record does is said in Playing.antt. Assumes nothing.
 use Prim.Native.Nat.{ℕ, _+_, _-_}
-use mathlib.Core.Bool.{true, false}
-use lib.Dec.{ltb}
+use mathlib.Core.Bool.{Bool, true, false, _&&_}
+use mathlib.Core.List.{List}
+use lib.Dec.{eqb, ltb}
+use lib.ListN.{length, getD}
 use Rattle.ground.specs.Pick.{pick}
 use Rattle.log_records.specs.declared.cut.Cut.{Cut}
 use Rattle.log_records.specs.declared.cut.Cut.the-variants.{End, Short, Body}
+use Rattle.log_records.specs.Judge.{word}
 use Rattle.log_records.specs.declared.judge.Record.{Record}
 use Rattle.log_records.specs.declared.judge.Record.the-variants.{Write, Read, Clock, Pcm, Wrong}
 use Rattle.log_player.specs.declared.body.Part.{Part}
@@ -37,3 +40,8 @@ groupWriteOf (Read addr) = noWrite
 groupWriteOf (Clock double divider count) = noWrite
 groupWriteOf Pcm = noWrite
 groupWriteOf Wrong = noWrite
+
+-- "01 addr value" in every version: the write that a body by itself is with power on
+unfoldable pub groupWriteIn : List ℕ → Bool → GroupWrite
+groupWriteIn body power =
+    pick (eqb (length body) 4) (pick (power && eqb (getD body 0 0) 1) (groupAt (word body 1) (getD body 3 0)) noWrite) noWrite

@@ -10,11 +10,11 @@ use Rattle.ground.specs.Iterate.{iterate}
 use Rattle.apu.specs.declared.Apu.{Apu}
 use Rattle.apu_clock.specs.Sequencer.{advanced}
 use Rattle.apu_run.specs.Working.{Take, workingOn, ranOf}
-use Rattle.apu_run.specs.Calls.{standing, clocksBytes, afterClocks}
+use Rattle.apu_run.specs.Calls.{clocksBytes, afterClocks}
 use Rattle.apu_run.specs.Owed.{marked}
 use Rattle.log_records.specs.declared.judge.Record.{Record}
 use Rattle.log_records.specs.declared.judge.Clocks.{Clocks}
-use Rattle.log_records.specs.Records.{clocksAt, recordsFrom, unrolled}
+use Rattle.log_records.specs.Records.{clocksAt, clockEnd, recordsFrom, unrolled}
 use Rattle.log_player.specs.declared.reckon.Reckoned.{Reckoned}
 use Rattle.log_player.specs.Playing.{output, unitAtEnd}
 
@@ -27,19 +27,19 @@ recordsOn l t = record { apu = unitAtEnd l (t .apu); bytes = t .bytes ++ output 
 -- the calls of a clock record from call i on
 abbrev pub callsOn : Clocks → ℕ → Take → Take
 callsOn c i t =
-    let d = standing (c .divider) in
+    let d = c .divider in
     let k = c .count - i in
     record { apu = afterClocks (c .double) d i k (t .apu); bytes = t .bytes ++ clocksBytes (c .double) d i k (t .apu) }
 
--- the log from a place on, of whose first record, a clock record, so many calls are past
-unfoldable pub comingAt : List ℕ → ℕ → ℕ → Take → Take
-comingAt s at zero t = recordsOn (unrolled (recordsFrom s at)) t
-comingAt s at (suc i) t = recordsOn (unrolled (recordsFrom s (at + 7))) (callsOn (clocksAt s at) (suc i) t)
+-- a log of version v from a place on, of whose first record, a clock record, so many calls are past
+unfoldable pub comingAt : ℕ → List ℕ → ℕ → ℕ → Take → Take
+comingAt v s at zero t = recordsOn (unrolled (recordsFrom v s at)) t
+comingAt v s at (suc i) t = recordsOn (unrolled (recordsFrom v s (clockEnd v at))) (callsOn (clocksAt v s at) (suc i) t)
 
 -- a place between two calls: only a clock record has calls that are past, and not all of them are
-pub record Between (s : List ℕ) (at call : ℕ) : Type 0 where
-  pub within : clocksAt s at .right ≡ true → call < clocksAt s at .count
-  pub none : clocksAt s at .right ≡ false → call ≡ 0
+pub record Between (v : ℕ) (s : List ℕ) (at call : ℕ) : Type 0 where
+  pub within : clocksAt v s at .right ≡ true → call < clocksAt v s at .count
+  pub none : clocksAt v s at .right ≡ false → call ≡ 0
 
 -- how much that is: a record has at least two bytes and at most 16,384 calls
 unfoldable pub ahead : List ℕ → ℕ → ℕ → ℕ
@@ -58,11 +58,11 @@ abbrev pub steppedOn : Reckoned → Take → Take
 steppedOn r t = iterate (r .more) workingOn (record { apu = stepped r (t .apu); bytes = t .bytes })
 
 -- owing what `r` says at its place is, for every unit with that power, owing `more` at the place (at, call), with those half-clocks and that stored bit
-pub record Reckons (s : List ℕ) (at call more : ℕ) (power : Bool) (half : ℕ) (stored : Bool) (r : Reckoned) : Type 0 where
+pub record Reckons (v : ℕ) (s : List ℕ) (at call more : ℕ) (power : Bool) (half : ℕ) (stored : Bool) (r : Reckoned) : Type 0 where
   pub same : (a : Apu) → a .power ≡ power
-      → comingAt s at call (ranOf more (marked a half stored))
-      ≡ comingAt s (r .at) (r .call) (steppedOn r (ranOf (r .owed) (marked a (r .half) (r .stored))))
-  pub place : Between s (r .at) (r .call)
+      → comingAt v s at call (ranOf more (marked a half stored))
+      ≡ comingAt v s (r .at) (r .call) (steppedOn r (ranOf (r .owed) (marked a (r .half) (r .stored))))
+  pub place : Between v s (r .at) (r .call)
   pub halves : r .half ≤ 1
   pub few : r .owed ≤ 32767
   pub fewer : r .more ≤ 16383

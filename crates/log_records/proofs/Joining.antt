@@ -1,5 +1,5 @@
--- The records of two logs in one: a log of whole records, and after it another without its first two bytes. Each record is cut out as where it stood, since
--- what is cut at a place is told by the bytes from there on. Assumes nothing.
+-- The records of two logs of one version in one: a log of whole records, and after it another without its first two bytes. Each record is cut out as where it
+-- stood, since what is cut at a place is told by the bytes from there on. Assumes nothing.
 use Prim.Native.Nat.{ℕ, zero, suc, _+_, _-_, _*_, _≤_, _<_}
 use mathlib.Core.Path.{_≡_, refl, sym, _∙_, ap, ap₂}
 use mathlib.Core.List.{List, [], _∷_, _++_}
@@ -14,7 +14,8 @@ use Rattle.log_records.specs.declared.cut.Cut.{Cut}
 use Rattle.log_records.specs.declared.cut.Cut.the-variants.{End, Short, Body}
 use Rattle.log_records.specs.declared.judge.Record.{Record}
 use Rattle.log_records.specs.Judge.{word, judgeOf}
-use Rattle.log_records.specs.Records.{Parsed, done, short, item, cutAt, bodyAt, grow, recordsFrom, records-step, unrolled, listed}
+use Rattle.log_records.specs.Records.{Parsed, done, short, item, cutAt, bodyAt, grow, recordsFrom, records-step, unrolled}
+use Rattle.log_records.specs.Records.{listedAs, versionOf, listed}
 use Rattle.log_records.proofs.Framing.{body-fits, body-is, end-past, some-cut, at-end, at-short, at-body}
 
 -- ---- what lies in front of a list, and what lies behind
@@ -77,7 +78,7 @@ unrolled-joined (short p) q w = let z : _≡_ {A = ℕ} 0 1 = cc in absurd (omeg
 unrolled-joined (item p r rest) q w = ap (λ (l : List Record). r ∷ l) (unrolled-joined rest q w)
 
 -- ---- a log without its first k bytes
-module _ (s : List ℕ) (k : ℕ) where
+module _ (v : ℕ) (s : List ℕ) (k : ℕ) where
   leb-shift : (n i : ℕ) → leb (n - k) i ≡ leb n (k + i)
   leb-shift n i = go (leb n (k + i)) refl
     where
@@ -96,35 +97,35 @@ module _ (s : List ℕ) (k : ℕ) where
 
   -- by what stands at the place, and what is known of the rest
   first-shift : (i : ℕ) (c : Cut)
-      → ((n : ℕ) → c ≡ Body n → placeless (recordsFrom (drop k s) (i + 2 + n)) ≡ placeless (recordsFrom s (k + i + 2 + n)))
-      → placeless (grow (drop k s) i (recordsFrom (drop k s)) c) ≡ placeless (grow s (k + i) (recordsFrom s) c)
+      → ((n : ℕ) → c ≡ Body n → placeless (recordsFrom v (drop k s) (i + 2 + n)) ≡ placeless (recordsFrom v s (k + i + 2 + n)))
+      → placeless (grow v (drop k s) i (recordsFrom v (drop k s)) c) ≡ placeless (grow v s (k + i) (recordsFrom v s) c)
   unfolding placeless
   first-shift i End rest = refl
   first-shift i Short rest = refl
-  first-shift i (Body n) rest = ap₂ (λ (r : Record) (p : Parsed). item 0 r p) (ap judgeOf (body-shift i n)) (rest n refl)
+  first-shift i (Body n) rest = ap₂ (λ (r : Record) (p : Parsed). item 0 r p) (ap (judgeOf v) (body-shift i n)) (rest n refl)
 
   step-shift : (i : ℕ)
-      → ((n : ℕ) → cutAt s (k + i) ≡ Body n → placeless (recordsFrom (drop k s) (i + 2 + n)) ≡ placeless (recordsFrom s (k + i + 2 + n)))
-      → placeless (recordsFrom (drop k s) i) ≡ placeless (recordsFrom s (k + i))
+      → ((n : ℕ) → cutAt s (k + i) ≡ Body n → placeless (recordsFrom v (drop k s) (i + 2 + n)) ≡ placeless (recordsFrom v s (k + i + 2 + n)))
+      → placeless (recordsFrom v (drop k s) i) ≡ placeless (recordsFrom v s (k + i))
   step-shift i rest =
-      ap placeless (records-step (drop k s) i ∙ ap (grow (drop k s) i (recordsFrom (drop k s))) (cut-shift i))
+      ap placeless (records-step v (drop k s) i ∙ ap (grow v (drop k s) i (recordsFrom v (drop k s))) (cut-shift i))
       ∙ first-shift i (cutAt s (k + i)) rest
-      ∙ sym (ap placeless (records-step s (k + i)))
+      ∙ sym (ap placeless (records-step v s (k + i)))
 
-  rows-shift : (f i : ℕ) → length s - (k + i) ≤ f → placeless (recordsFrom (drop k s) i) ≡ placeless (recordsFrom s (k + i))
+  rows-shift : (f i : ℕ) → length s - (k + i) ≤ f → placeless (recordsFrom v (drop k s) i) ≡ placeless (recordsFrom v s (k + i))
   rows-shift zero i h = step-shift i (λ n e. let b = body-fits s (k + i) n e in absurd (omega arith))
   rows-shift (suc f) i h =
       step-shift i
       (λ n e.
       let next : k + (i + 2 + n) ≡ k + i + 2 + n = omega arith in
-      rows-shift f (i + 2 + n) (omega arith) ∙ ap (λ (m : ℕ). placeless (recordsFrom s m)) next)
+      rows-shift f (i + 2 + n) (omega arith) ∙ ap (λ (m : ℕ). placeless (recordsFrom v s m)) next)
 
   -- its records from a place on are the log's from k places further on
-  pub records-shift : (i : ℕ) → placeless (recordsFrom (drop k s) i) ≡ placeless (recordsFrom s (k + i))
+  pub records-shift : (i : ℕ) → placeless (recordsFrom v (drop k s) i) ≡ placeless (recordsFrom v s (k + i))
   records-shift i = rows-shift (length s - (k + i)) i (le-refl _)
 
 -- ---- a log in front of more bytes
-module _ (s more : List ℕ) where
+module _ (v : ℕ) (s more : List ℕ) where
   front-word : (at : ℕ) → at + 1 < length s → word (s ++ more) at ≡ word s at
   front-word at h =
       let here : at < length s = omega arith in
@@ -140,39 +141,48 @@ module _ (s more : List ℕ) where
       ap (take n) (drop-front (at + 2) s more (omega arith)) ∙ take-front n (drop (at + 2) s) more (rw (length-drop (at + 2) s) (omega arith))
 
   -- where the log ends, the rest begins
-  behind : placeless (recordsFrom (s ++ more) (length s)) ≡ placeless (recordsFrom more 0)
+  behind : placeless (recordsFrom v (s ++ more) (length s)) ≡ placeless (recordsFrom v more 0)
   behind =
-      ap (λ (n : ℕ). placeless (recordsFrom (s ++ more) n)) (sym (add-zero (length s)))
-      ∙ sym (records-shift (s ++ more) (length s) 0)
-      ∙ ap (λ (l : List ℕ). placeless (recordsFrom l 0)) (drop-all s more)
+      ap (λ (n : ℕ). placeless (recordsFrom v (s ++ more) n)) (sym (add-zero (length s)))
+      ∙ sym (records-shift v (s ++ more) (length s) 0)
+      ∙ ap (λ (l : List ℕ). placeless (recordsFrom v l 0)) (drop-all s more)
 
   abbrev Joins : ℕ → Type 0
-  Joins at = placeless (recordsFrom (s ++ more) at) ≡ joined (placeless (recordsFrom s at)) (placeless (recordsFrom more 0))
+  Joins at = placeless (recordsFrom v (s ++ more) at) ≡ joined (placeless (recordsFrom v s at)) (placeless (recordsFrom v more 0))
 
-  step-join : (at : ℕ) (c : Cut) → cutAt s at ≡ c → at ≤ length s → whole (recordsFrom s at) ≡ true
-      → ((n : ℕ) → at + 2 + n ≤ length s → whole (recordsFrom s (at + 2 + n)) ≡ true → Joins (at + 2 + n)) → Joins at
+  step-join : (at : ℕ) (c : Cut) → cutAt s at ≡ c → at ≤ length s → whole (recordsFrom v s at) ≡ true
+      → ((n : ℕ) → at + 2 + n ≤ length s → whole (recordsFrom v s (at + 2 + n)) ≡ true → Joins (at + 2 + n)) → Joins at
   unfolding placeless joined whole
   step-join at End e h w rest =
       let here : at ≡ length s = le-antisymm h (end-past s at e) in
-      rw (at-end s at e) (rw here behind)
-  step-join at Short e h w rest = let z : _≡_ {A = Bool} false true = rw (at-short s at e) at w in let y : _≡_ {A = ℕ} 0 1 = cc in absurd (omega arith)
+      rw (at-end v s at e) (rw here behind)
+  step-join at Short e h w rest = let z : _≡_ {A = Bool} false true = rw (at-short v s at e) at w in let y : _≡_ {A = ℕ} 0 1 = cc in absurd (omega arith)
   step-join at (Body n) e h w rest =
       let b = body-fits s at n e in
-      let r = rest n b (rw (at-body s at n e) at w) in
-      rw (at-body s at n e, at-body (s ++ more) at n (front-cut at n e), front-body at n b, r)
+      let r = rest n b (rw (at-body v s at n e) at w) in
+      rw (at-body v s at n e, at-body v (s ++ more) at n (front-cut at n e), front-body at n b, r)
 
-  rows-join : (f at : ℕ) → length s - at ≤ f → at ≤ length s → whole (recordsFrom s at) ≡ true → Joins at
+  rows-join : (f at : ℕ) → length s - at ≤ f → at ≤ length s → whole (recordsFrom v s at) ≡ true → Joins at
   rows-join zero at l h w = step-join at (cutAt s at) refl h w (λ n b _. absurd (omega arith))
   rows-join (suc f) at l h w = step-join at (cutAt s at) refl h w (λ n b v. rows-join f (at + 2 + n) (omega arith) b v)
 
--- THE LAW: the records of the one, then those of the other; with their places ignored, and without them
-module _ (s t : List ℕ) (h : 2 ≤ length s) (w : whole (recordsFrom s 2) ≡ true) where
-  pub records-join : placeless (recordsFrom (s ++ drop 2 t) 2) ≡ joined (placeless (recordsFrom s 2)) (placeless (recordsFrom t 2))
+-- THE LAW: in a version, the records of the one, then those of the other, with their places ignored
+module _ (v : ℕ) (s t : List ℕ) (h : 2 ≤ length s) (w : whole (recordsFrom v s 2) ≡ true) where
+  pub records-join : placeless (recordsFrom v (s ++ drop 2 t) 2) ≡ joined (placeless (recordsFrom v s 2)) (placeless (recordsFrom v t 2))
   records-join =
-      rows-join s (drop 2 t) (length s - 2) 2 (le-refl _) h w ∙ ap (joined (placeless (recordsFrom s 2))) (records-shift t 2 0)
+      rows-join v s (drop 2 t) (length s - 2) 2 (le-refl _) h w ∙ ap (joined (placeless (recordsFrom v s 2))) (records-shift v t 2 0)
 
-  pub listed-join : listed (s ++ drop 2 t) ≡ listed s ++ listed t
-  listed-join =
-      sym (unrolled-placeless (recordsFrom (s ++ drop 2 t) 2))
+  -- and without them
+  rows-listed : listedAs v (s ++ drop 2 t) ≡ listedAs v s ++ listedAs v t
+  rows-listed =
+      sym (unrolled-placeless (recordsFrom v (s ++ drop 2 t) 2))
       ∙ ap unrolled records-join
-      ∙ unrolled-joined (recordsFrom s 2) (recordsFrom t 2) w
+      ∙ unrolled-joined (recordsFrom v s 2) (recordsFrom v t 2) w
+
+-- of two logs of one version
+module _ (s t : List ℕ) (h : 2 ≤ length s) where
+  pub version-join : versionOf (s ++ drop 2 t) ≡ versionOf s
+  version-join = let some : 0 < length s = omega arith in List·getD-append s (drop 2 t) 0 0 some
+
+  pub listed-join : versionOf t ≡ versionOf s → whole (recordsFrom (versionOf s) s 2) ≡ true → listed (s ++ drop 2 t) ≡ listed s ++ listed t
+  listed-join same w = rw (version-join, same) (rows-listed (versionOf s) s t h w)

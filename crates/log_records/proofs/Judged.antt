@@ -6,10 +6,11 @@ use mathlib.Core.Bool.{Bool, true, false, _&&_}
 use native.Mathlib.Omega.{arith}
 use lib.Dec.{leb, eqb}
 use lib.ListN.{length, getD}
-use borrow.Author.Tests.{leb-true, eqb-true}
+use borrow.Author.Tests.{leb-true, eqb-true, eq-eqb, ne-eqb}
 use Rattle.ground.specs.Pick.{pick}
 use Rattle.ground.proofs.Cases.{both-ways, pick-holds, pick-false, and-left, and-right}
-use Rattle.log_records.specs.Judge.{word, writeOf, readOf, clockOf, pcmOf, judgeOf, noClocks, clocksOf}
+use Rattle.log_records.specs.Judge.{word, writeOf, readOf, clockLength, dividerIn, countIn, fairOf, clockOf, pcmOf, judgeOf, noClocks, clocksOf}
+use Rattle.log_records.specs.declared.divider.Divider.{Divider}
 use Rattle.log_records.specs.declared.judge.Record.{Record}
 use Rattle.log_records.specs.declared.judge.Record.the-variants.{Write, Read, Clock, Pcm, Wrong}
 
@@ -21,71 +22,87 @@ Few (Clock double divider count) = (1 ≤ count) × (count ≤ 16384)
 Few Pcm = Unit
 Few Wrong = Unit
 
-fair-few : (speed count : ℕ) → (leb speed 1 && (leb 1 count && leb count 16384)) ≡ true → (1 ≤ count) × (count ≤ 16384)
-fair-few speed count e =
-    let both = and-right (leb speed 1) (leb 1 count && leb count 16384) e in
+fair-few : (speed phase count : ℕ) → fairOf speed phase count ≡ true → (1 ≤ count) × (count ≤ 16384)
+fair-few speed phase count e =
+    let rest = and-right (leb speed 1) (leb phase 63 && (leb 1 count && leb count 16384)) e in
+    let both = and-right (leb phase 63) (leb 1 count && leb count 16384) rest in
     (leb-true 1 count (and-left (leb 1 count) _ both), leb-true count 16384 (and-right (leb 1 count) _ both))
 
-clock-is-few : (s : List ℕ) → Few (clockOf s)
+clock-is-few : (version : ℕ) (s : List ℕ) → Few (clockOf version s)
 unfolding clockOf
-clock-is-few s =
+clock-is-few v s =
     both-ways Few _
-    (pick-holds Few _ (Clock _ _ (word s 3)) Wrong (fair-few (getD s 1 0) (word s 3)) (λ _. tt))
+    (pick-holds Few _ (Clock _ _ (countIn v s)) Wrong (fair-few (getD s 1 0) (dividerIn v s .phase) (countIn v s)) (λ _. tt))
     tt
 
-judged-few : (s : List ℕ) → Few (judgeOf s)
+judged-few : (version : ℕ) (s : List ℕ) → Few (judgeOf version s)
 unfolding judgeOf writeOf readOf pcmOf
-judged-few s =
+judged-few v s =
     both-ways Few _ tt
     (both-ways Few _ (both-ways Few _ (both-ways Few _ tt tt) tt)
     (both-ways Few _ (both-ways Few _ (both-ways Few _ tt tt) tt)
-    (both-ways Few _ (clock-is-few s)
+    (both-ways Few _ (clock-is-few v s)
     (both-ways Few _ (both-ways Few _ tt tt)
     tt))))
 
-pub clock-few : (s : List ℕ) (d : Bool) (v k : ℕ) → judgeOf s ≡ Clock d v k → k ≤ 16384
-clock-few s d v k e = subst Few e (judged-few s) .1
+pub clock-few : (version : ℕ) (s : List ℕ) (double : Bool) (divider : Divider) (count : ℕ) → judgeOf version s ≡ Clock double divider count → count ≤ 16384
+clock-few v s double divider count e = subst Few e (judged-few v s) .1
 
--- ---- a body of five bytes: a clock record's, by its kind, speed and count, or none
-other-kind : (s : List ℕ) → eqb (getD s 0 0) 3 ≡ false → clocksOf (judgeOf s) ≡ noClocks
+-- ---- a body of a clock record's length: one, by its kind, speed, phase and count, or none
+pub clock-long : (version : ℕ) → (5 ≤ clockLength version) × (clockLength version ≤ 6)
+unfolding clockLength
+clock-long v = both-ways (λ (n : ℕ). (5 ≤ n) × (n ≤ 6)) _ (omega arith, omega arith) (omega arith, omega arith)
+
+other-kind : (end version : ℕ) (s : List ℕ) → eqb (getD s 0 0) 3 ≡ false → clocksOf end (judgeOf version s) ≡ noClocks
 unfolding judgeOf writeOf readOf pcmOf
-other-kind s e =
+other-kind end v s e =
     both-ways None _ refl
     (both-ways None _ (both-ways None _ (both-ways None _ refl refl) refl)
     (both-ways None _ (both-ways None _ (both-ways None _ refl refl) refl)
     (rw (pick-false _ _ _ e) (both-ways None _ (both-ways None _ refl refl) refl))))
   where
     None : Record → Type 0
-    None r = clocksOf r ≡ noClocks
+    None r = clocksOf end r ≡ noClocks
 
-clock-kind : (s : List ℕ) → length s ≡ 5 → eqb (getD s 0 0) 3 ≡ true → judgeOf s ≡ clockOf s
-unfolding judgeOf pick
-clock-kind s five e = rw (five, eqb-true (getD s 0 0) 3 e)
+module _ (end v : ℕ) (s : List ℕ) (long : length s ≡ clockLength v) where
+  clock-kind : eqb (getD s 0 0) 3 ≡ true → judgeOf v s ≡ clockOf v s
+  unfolding judgeOf pick
+  clock-kind e =
+      let some : length s ≡ 0 → ⊥ = λ z. omega (arith, clock-long v, long, z) in
+      rw (ne-eqb (length s) 0 some, eqb-true (getD s 0 0) 3 e)
 
-module _ (s : List ℕ) (five : length s ≡ 5) where
   abbrev fair : Bool
-  fair = leb (getD s 1 0) 1 && (leb 1 (word s 3) && leb (word s 3) 16384)
+  fair = fairOf (getD s 1 0) (dividerIn v s .phase) (countIn v s)
 
   pub clocks-right : (eqb (getD s 0 0) 3 && fair) ≡ true
-      → clocksOf (judgeOf s) ≡ record { right = true; double = eqb (getD s 1 0) 1; divider = getD s 2 0; count = word s 3 }
+      → clocksOf end (judgeOf v s) ≡ record { right = true; double = eqb (getD s 1 0) 1; divider = dividerIn v s; count = countIn v s; end = end }
   unfolding clockOf pick
-  clocks-right e = rw (clock-kind s five (and-left (eqb (getD s 0 0) 3) fair e), five, and-right (eqb (getD s 0 0) 3) fair e)
+  clocks-right e =
+      rw (clock-kind (and-left (eqb (getD s 0 0) 3) fair e), eq-eqb _ _ long, and-right (eqb (getD s 0 0) 3) fair e)
 
-  pub clocks-none : (eqb (getD s 0 0) 3 && fair) ≡ false → clocksOf (judgeOf s) ≡ noClocks
+  pub clocks-none : (eqb (getD s 0 0) 3 && fair) ≡ false → clocksOf end (judgeOf v s) ≡ noClocks
   unfolding clockOf pick
   clocks-none e = go (eqb (getD s 0 0) 3) refl e
     where
-      go : (b : Bool) → eqb (getD s 0 0) 3 ≡ b → (b && fair) ≡ false → clocksOf (judgeOf s) ≡ noClocks
-      go true k h = rw (clock-kind s five k, five, h)
-      go false k h = other-kind s k
+      go : (b : Bool) → eqb (getD s 0 0) 3 ≡ b → (b && fair) ≡ false → clocksOf end (judgeOf v s) ≡ noClocks
+      go true k h = rw (clock-kind k, eq-eqb _ _ long, h)
+      go false k h = other-kind end v s k
 
 -- ---- and the record that it is
-pub clock-is : (r : Record) → clocksOf r .right ≡ true → let c = clocksOf r in r ≡ Clock (c .double) (c .divider) (c .count)
-clock-is (Write addr value) e = let z : _≡_ {A = ℕ} 0 1 = cc in absurd (omega arith)
-clock-is (Read addr) e = let z : _≡_ {A = ℕ} 0 1 = cc in absurd (omega arith)
-clock-is (Clock double divider count) e = refl
-clock-is Pcm e = let z : _≡_ {A = ℕ} 0 1 = cc in absurd (omega arith)
-clock-is Wrong e = let z : _≡_ {A = ℕ} 0 1 = cc in absurd (omega arith)
+pub clock-is : (end : ℕ) (r : Record) → clocksOf end r .right ≡ true → let c = clocksOf end r in r ≡ Clock (c .double) (c .divider) (c .count)
+clock-is end (Write addr value) e = let z : _≡_ {A = ℕ} 0 1 = cc in absurd (omega arith)
+clock-is end (Read addr) e = let z : _≡_ {A = ℕ} 0 1 = cc in absurd (omega arith)
+clock-is end (Clock double divider count) e = refl
+clock-is end Pcm e = let z : _≡_ {A = ℕ} 0 1 = cc in absurd (omega arith)
+clock-is end Wrong e = let z : _≡_ {A = ℕ} 0 1 = cc in absurd (omega arith)
 
-pub clocks-few : (s : List ℕ) → let c = clocksOf (judgeOf s) in c .right ≡ true → (1 ≤ c .count) × (c .count ≤ 16384)
-clocks-few s e = subst Few (clock-is (judgeOf s) e) (judged-few s)
+-- which ends where it was said
+pub clock-ends : (end : ℕ) (r : Record) → clocksOf end r .right ≡ true → clocksOf end r .end ≡ end
+clock-ends end (Write addr value) e = let z : _≡_ {A = ℕ} 0 1 = cc in absurd (omega arith)
+clock-ends end (Read addr) e = let z : _≡_ {A = ℕ} 0 1 = cc in absurd (omega arith)
+clock-ends end (Clock double divider count) e = refl
+clock-ends end Pcm e = let z : _≡_ {A = ℕ} 0 1 = cc in absurd (omega arith)
+clock-ends end Wrong e = let z : _≡_ {A = ℕ} 0 1 = cc in absurd (omega arith)
+
+pub clocks-few : (end version : ℕ) (s : List ℕ) → let c = clocksOf end (judgeOf version s) in c .right ≡ true → (1 ≤ c .count) × (c .count ≤ 16384)
+clocks-few end v s e = subst Few (clock-is end (judgeOf v s) e) (judged-few v s)

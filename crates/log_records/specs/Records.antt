@@ -1,8 +1,8 @@
--- The log as a row of records, each with its place, from document 01, "The access log". Assumes nothing.
+-- A log of a version as a row of records, each with its place, from document 01, "The access log". Assumes nothing.
 use Prim.Native.Nat.{ℕ, zero, suc, _+_, _-_, _≤_}
 use mathlib.Core.Path.{_≡_, refl}
 use mathlib.Core.List.{List, [], _∷_}
-use lib.ListN.{length, take, drop}
+use lib.ListN.{length, getD, take, drop}
 use lib.Dec.{ltb, leb, eqb}
 use native.Mathlib.Omega.{arith}
 use borrow.Author.Tests.{le-leb}
@@ -11,7 +11,7 @@ use Rattle.log_records.specs.declared.judge.Record.{Record}
 use Rattle.log_records.specs.declared.judge.Clocks.{Clocks}
 use Rattle.log_records.specs.declared.cut.Cut.{Cut}
 use Rattle.log_records.specs.declared.cut.Cut.the-variants.{End, Short, Body}
-use Rattle.log_records.specs.Judge.{word, judgeOf, noClocks, clocksOf}
+use Rattle.log_records.specs.Judge.{word, clockLength, judgeOf, noClocks, clocksOf}
 
 -- "two length bytes, big-endian, and the body of that many bytes"; else the log ends here, or "a record cut short"
 unfoldable pub cutAt : List ℕ → ℕ → Cut
@@ -24,9 +24,14 @@ cutAt s at =
 abbrev pub bodyAt : List ℕ → ℕ → ℕ → List ℕ
 bodyAt s at n = take n (drop (at + 2) s)
 
--- (for the players alone) the clock record at a place: a body of "03 speed .. (5)" bytes, which lies within the log
-unfoldable pub clocksAt : List ℕ → ℕ → Clocks
-clocksAt s at = pick (leb (at + 7) (length s)) (pick (eqb (word s at) 5) (clocksOf (judgeOf (bodyAt s at 5))) noClocks) noClocks
+-- (for the players alone) the clock record at a place: where it would end, and a body of as many bytes as a clock record's has, which lies within the log
+abbrev pub clockEnd : ℕ → ℕ → ℕ
+clockEnd version at = at + 2 + clockLength version
+
+unfoldable pub clocksAt : ℕ → List ℕ → ℕ → Clocks
+clocksAt version s at =
+    let n = clockLength version in
+    pick (leb (clockEnd version at) (length s)) (pick (eqb (word s at) n) (clocksOf (clockEnd version at) (judgeOf version (bodyAt s at n))) noClocks) noClocks
 
 -- the records in order, each with the place of its first length byte; the row ends where the log does, or at a record cut short
 pub data Parsed : Type 0 where
@@ -35,38 +40,40 @@ pub data Parsed : Type 0 where
   item : ℕ → Record → Parsed → Parsed
 
 -- what stands at a place, in front of what `rest` says of the next
-abbrev pub grow : List ℕ → ℕ → (ℕ → Parsed) → Cut → Parsed
-grow s at rest End = done
-grow s at rest Short = short at
-grow s at rest (Body n) = item at (judgeOf (bodyAt s at n)) (rest (at + 2 + n))
+abbrev pub grow : ℕ → List ℕ → ℕ → (ℕ → Parsed) → Cut → Parsed
+grow version s at rest End = done
+grow version s at rest Short = short at
+grow version s at rest (Body n) = item at (judgeOf version (bodyAt s at n)) (rest (at + 2 + n))
 
 -- the records from a place on, but no more than so many
-unfoldable pub parse : ℕ → List ℕ → ℕ → Parsed
-parse zero s at = done
-parse (suc f) s at = grow s at (parse f s) (cutAt s at)
+unfoldable pub parse : ℕ → ℕ → List ℕ → ℕ → Parsed
+parse version zero s at = done
+parse version (suc f) s at = grow version s at (parse version f s) (cutAt s at)
 
 -- all of them: there are no more than the log has bytes
-unfoldable pub recordsFrom : List ℕ → ℕ → Parsed
-recordsFrom s at = parse (length s) s at
+unfoldable pub recordsFrom : ℕ → List ℕ → ℕ → Parsed
+recordsFrom version s at = parse version (length s) s at
 
 -- this and the next two are facts with their proofs: rests that agree on the next place give the same row
-grow-same : (s : List ℕ) (at : ℕ) (f g : ℕ → Parsed) (k : Cut) → ((n : ℕ) → f (at + 2 + n) ≡ g (at + 2 + n)) → grow s at f k ≡ grow s at g k
-grow-same s at f g End h = refl
-grow-same s at f g Short h = refl
-grow-same s at f g (Body n) h = rw (h n)
+grow-same : (version : ℕ) (s : List ℕ) (at : ℕ) (f g : ℕ → Parsed) (k : Cut) → ((n : ℕ) → f (at + 2 + n) ≡ g (at + 2 + n))
+    → grow version s at f k ≡ grow version s at g k
+grow-same v s at f g End h = refl
+grow-same v s at f g Short h = refl
+grow-same v s at f g (Body n) h = rw (h n)
 
 -- two counts that are both enough give the same
-parse-same : (f g : ℕ) (s : List ℕ) (at : ℕ) → length s - at ≤ f → length s - at ≤ g → parse f s at ≡ parse g s at
+parse-same : (version f g : ℕ) (s : List ℕ) (at : ℕ) → length s - at ≤ f → length s - at ≤ g → parse version f s at ≡ parse version g s at
 unfolding pick parse cutAt
-parse-same zero zero s at h k = refl
-parse-same zero (suc g) s at h k = let e : length s ≤ at = omega arith in simp (le-leb _ _ e)
-parse-same (suc f) zero s at h k = let e : length s ≤ at = omega arith in simp (le-leb _ _ e)
-parse-same (suc f) (suc g) s at h k = grow-same s at (parse f s) (parse g s) (cutAt s at) (λ n. parse-same f g s (at + 2 + n) (omega arith) (omega arith))
+parse-same v zero zero s at h k = refl
+parse-same v zero (suc g) s at h k = let e : length s ≤ at = omega arith in simp (le-leb _ _ e)
+parse-same v (suc f) zero s at h k = let e : length s ≤ at = omega arith in simp (le-leb _ _ e)
+parse-same v (suc f) (suc g) s at h k =
+    grow-same v s at (parse v f s) (parse v g s) (cutAt s at) (λ n. parse-same v f g s (at + 2 + n) (omega arith) (omega arith))
 
 -- what to read `recordsFrom` as: the records from a place on are what stands there, before the records from the next place on
-pub records-step : (s : List ℕ) (at : ℕ) → recordsFrom s at ≡ grow s at (recordsFrom s) (cutAt s at)
+pub records-step : (version : ℕ) (s : List ℕ) (at : ℕ) → recordsFrom version s at ≡ grow version s at (recordsFrom version s) (cutAt s at)
 unfolding recordsFrom parse
-records-step s at = parse-same (length s) (suc (length s)) s at (omega arith) (omega arith)
+records-step v s at = parse-same v (length s) (suc (length s)) s at (omega arith) (omega arith)
 
 -- the records without their places
 abbrev pub unrolled : Parsed → List Record
@@ -74,6 +81,17 @@ unrolled done = []
 unrolled (short p) = []
 unrolled (item p r rest) = r ∷ unrolled rest
 
--- a log's records, which begin after version and start byte
+-- the records of a log of a version, which begin after version and start byte
+abbrev pub listedAs : ℕ → List ℕ → List Record
+listedAs version s = unrolled (recordsFrom version s 2)
+
+-- "Byte 0 is version"
+abbrev pub versionOf : List ℕ → ℕ
+versionOf s = getD s 0 0
+
+-- a log's records by its own version, with their places and without
+abbrev pub recordsOf : List ℕ → Parsed
+recordsOf s = recordsFrom (versionOf s) s 2
+
 abbrev pub listed : List ℕ → List Record
-listed s = unrolled (recordsFrom s 2)
+listed s = unrolled (recordsOf s)

@@ -1,6 +1,6 @@
 // Records in a log: two length bytes and the body of that many bytes.
 ghost use mathlib.Core.Path.{_≡_};
-ghost use Rattle.log_records.specs.Records.{cutAt};
+ghost use Rattle.log_records.specs.Records.{cutAt, versionOf};
 use crate::judge::word_at;
 
 // How the log goes on at a place: it ends, a record is cut short, or there is a body of so many bytes.
@@ -25,4 +25,11 @@ pub fn cut_at(log: &[u8], at: usize) -> Cut
         return Cut::Short;
     }
     Cut::Body { len }
+}
+
+// A log's version; 0 where it has none, and is refused.
+pub fn version_of(log: &[u8]) -> u8
+    ensures { λ r. ⌜ r ≡ versionOf (now (log .entry)) ⌝ }
+{
+    if 0 < log.len() { log[0] } else { 0 }
 }

@@ -1,9 +1,10 @@
 // The judge of a record's body: a part of the log, which starts in its middle.
 ghost use mathlib.Core.Path.{_≡_};
-ghost use Prim.Native.Nat.{_+_, _<_};
+ghost use Prim.Native.Nat.{_+_, _<_, _≤_};
 ghost use lib.ListN.{length};
-ghost use Rattle.log_records.specs.Judge.{word, writeOf, readOf, clockOf, pcmOf, judgeOf, noClocks, clocksOf};
+ghost use Rattle.log_records.specs.Judge.{word, writeOf, readOf, clockLength, dividerIn, fairOf, clockOf, pcmOf, judgeOf, noClocks, clocksOf};
 ghost use Rattle.log_records.specs.Records.{clocksAt};
+use crate::divider::Divider;
 use ground::num::is_sound;
 
 // What a record's body says.
@@ -17,7 +18,7 @@ pub enum Record {
     },
     Clock {
         double: bool,
-        divider: u8,
+        divider: Divider,
         count: u16,
     },
     Pcm,
@@ -67,17 +68,54 @@ fn judge_read(body: &[u8]) -> Record
     Record::Wrong
 }
 
-// Kind 03: speed, divider and count.
-fn judge_clock(body: &[u8]) -> Record
-    ensures { λ r. ⌜ r ≡ clockOf (now (body .entry)) ⌝ }
+// The bytes of a clock record's body in a log of a version.
+fn clock_length(version: u8) -> usize
+    ensures { λ r. ⌜ r ≡ clockLength version ⌝ }
+    ensures { λ r. ⌜ (5 ≤ r) × (r ≤ 6) ⌝ }
 {
-    if body.len() == 5 {
+    if version == 1 { 5 } else { 6 }
+}
+
+// The divider that a clock record's body says: from version 2 on its phase comes after it.
+fn divider_in(version: u8, body: &[u8]) -> Divider
+    requires { ⌜ 5 ≤ length (now body) ⌝ }
+    ensures { λ r. ⌜ r ≡ dividerIn version (now (body .entry)) ⌝ }
+{
+    if version == 1 {
+        Divider {
+            byte: body[2],
+            phase: 0,
+            runs: false,
+        }
+    } else {
+        Divider {
+            byte: body[2],
+            phase: body[3],
+            runs: true,
+        }
+    }
+}
+
+// Whether speed, phase and count are in their ranges.
+fn fair(speed: u8, phase: u8, count: u16) -> bool
+    ensures { λ r. ⌜ r ≡ fairOf speed phase count ⌝ }
+{
+    (speed <= 1) & ((phase <= 63) & ((1 <= count) & (count <= 16384)))
+}
+
+// Kind 03: speed, divider and count.
+fn judge_clock(version: u8, body: &[u8]) -> Record
+    ensures { λ r. ⌜ r ≡ clockOf version (now (body .entry)) ⌝ }
+{
+    let length = clock_length(version);
+    if body.len() == length {
         let speed = body[1];
-        let count = word_at(body, 3);
-        if (speed <= 1) & ((1 <= count) & (count <= 16384)) {
+        let divider = divider_in(version, body);
+        let count = word_at(body, length - 2);
+        if fair(speed, divider.phase, count) {
             return Record::Clock {
                 double: speed == 1,
-                divider: body[2],
+                divider,
                 count,
             };
         }
@@ -85,60 +123,82 @@ fn judge_clock(body: &[u8]) -> Record
     Record::Wrong
 }
 
-// A clock record, or none.
+// A clock record and the place after it, or none.
 pub struct Clocks {
     pub right: bool,
     pub double: bool,
-    pub divider: u8,
+    pub divider: Divider,
     pub count: u16,
+    pub end: usize,
 }
 
 fn no_clocks() -> Clocks
     ensures { λ r. ⌜ r ≡ noClocks ⌝ }
 {
+    let divider = Divider {
+        byte: 0,
+        phase: 0,
+        runs: false,
+    };
     Clocks {
         right: false,
         double: false,
-        divider: 0,
+        divider,
         count: 0,
+        end: 0,
     }
 }
 
-// What a body of five bytes says, where it is a clock record's.
-fn clocks_in(body: &[u8]) -> Clocks
-    requires { ⌜ length (now body) ≡ 5 ⌝ }
-    ensures { λ r. ⌜ r ≡ clocksOf (judgeOf (now (body .entry))) ⌝ }
+// What a body of a clock record's length says, where it is one, that ends at a place.
+fn clocks_in(version: u8, body: &[u8], end: usize) -> Clocks
+    requires { ⌜ length (now body) ≡ clockLength version ⌝ }
+    ensures { λ r. ⌜ r ≡ clocksOf end (judgeOf version (now (body .entry))) ⌝ }
 {
+    let length = clock_length(version);
     let speed = body[1];
-    let count = word_at(body, 3);
-    if (body[0] == 3) & ((speed <= 1) & ((1 <= count) & (count <= 16384))) {
+    let divider = divider_in(version, body);
+    let count = word_at(body, length - 2);
+    if (body[0] == 3) & fair(speed, divider.phase, count) {
         return Clocks {
             right: true,
             double: speed == 1,
-            divider: body[2],
+            divider,
             count,
+            end,
         };
     }
     no_clocks()
 }
 
-// The clock record at a place, if one stands there. It takes seven bytes, so that who finds one knows where the next record begins without its length.
-pub fn clocks_at(log: &[u8], at: usize) -> Clocks
-    ensures { λ r. ⌜ r ≡ clocksAt (now (log .entry)) at ⌝ }
+// The clock record at a place of a log of this version, if one stands there.
+fn clocks_of(version: u8, log: &[u8], at: usize) -> Clocks
+    ensures { λ r. ⌜ r ≡ clocksAt version (now (log .entry)) at ⌝ }
 {
+    let length = clock_length(version);
     let n = log.len();
-    if n < 7 {
+    if n < length + 2 {
         return no_clocks();
     }
-    if n - 7 < at {
+    if n - length - 2 < at {
         return no_clocks();
     }
-    if word_at(log, at) == 5 {
+    if word_at(log, at) as usize == length {
         let from = at + 2;
-        let to = at + 7;
-        return clocks_in(&log[from..to]);
+        let to = from + length;
+        return clocks_in(version, &log[from..to], to);
     }
     no_clocks()
+}
+
+// The same by the version: each arm is compiled for its own length. (In one for both, records of one call took half as long again.)
+pub fn clocks_at(version: u8, log: &[u8], at: usize) -> Clocks
+    ensures { λ r. ⌜ r ≡ clocksAt version (now (log .entry)) at ⌝ }
+{
+    if version == 1 {
+        clocks_of(1, log, at)
+    } else {
+        clocks_of(version, log, at)
+    }
 }
 
 // Kind 04: both PCM reads.
@@ -152,9 +212,9 @@ fn judge_pcm(body: &[u8]) -> Record
     }
 }
 
-// What a body says, by its kind.
-pub fn judge(body: &[u8]) -> Record
-    ensures { λ r. ⌜ r ≡ judgeOf (now (body .entry)) ⌝ }
+// What a body says in a log of a version, by its kind.
+pub fn judge(version: u8, body: &[u8]) -> Record
+    ensures { λ r. ⌜ r ≡ judgeOf version (now (body .entry)) ⌝ }
 {
     if body.len() == 0 {
         return Record::Wrong;
@@ -167,7 +227,7 @@ pub fn judge(body: &[u8]) -> Record
         return judge_read(body);
     }
     if kind == 3 {
-        return judge_clock(body);
+        return judge_clock(version, body);
     }
     if kind == 4 {
         return judge_pcm(body);

@@ -12,7 +12,7 @@ use Rattle.log_scan.specs.declared.scan.Mark.the-variants.{Clear, At}
 use Rattle.log_scan.specs.declared.scan.Found.{Found}
 use Rattle.log_records.specs.Records.{Parsed, item, cutAt, recordsFrom, unrolled}
 use Rattle.log_scan.specs.Sums.{asks, halvesOf, readBytesOf, sumOf}
-use Rattle.log_scan.specs.Scan.{Fits, orMark, wrongIn, summed, added, both, nothing, foundIn, foundAll}
+use Rattle.log_scan.specs.Scan.{Fits, orMark, wrongIn, summed, added, both, goodBoth, nothing, foundIn, foundAll}
 use Rattle.log_records.proofs.Framing.{at-end, at-short}
 use Rattle.log_scan.proofs.Bounds.{calls-low, halves-low, read-bytes-low, count-low}
 
@@ -23,6 +23,9 @@ or-assoc (At p) b c = refl
 or-none : (a : Mark) → orMark a Clear ≡ a
 or-none Clear = refl
 or-none (At p) = refl
+
+pub good-both : (a b : Found) → b .wrong ≡ Clear → goodBoth a b ≡ both a b
+good-both a b e = ap (λ (m : Mark). record { wrong = m; sums = added (a .sums) (b .sums) }) (sym (ap (orMark (a .wrong)) e ∙ or-none (a .wrong)))
 
 both-assoc : (a b c : Found) → both (both a b) c ≡ both a (both b c)
 both-assoc a b c =
@@ -58,17 +61,17 @@ unfolding wrongIn sumOf
 found-item p r rest = rw (one-more (length (unrolled rest)))
 
 -- the loop's invariant: what was found, joined to what the rest have, is what all have
-pub record Going (s : List ℕ) (at : ℕ) (t : Found) : Type 0 where
-  pub state : both t (foundAll (recordsFrom s at)) ≡ foundAll (recordsFrom s 2)
+pub record Going (v : ℕ) (s : List ℕ) (at : ℕ) (t : Found) : Type 0 where
+  pub state : both t (foundAll (recordsFrom v s at)) ≡ foundAll (recordsFrom v s 2)
   pub inside : at ≤ length s + 2
 
-pub begun : (s : List ℕ) → Going s 2 (nothing Clear)
-begun s = record { state = none-both (foundAll (recordsFrom s 2)); inside = omega arith }
+pub begun : (v : ℕ) (s : List ℕ) → Going v s 2 (nothing Clear)
+begun v s = record { state = none-both (foundAll (recordsFrom v s 2)); inside = omega arith }
 
-module _ {s : List ℕ} {at : ℕ} {t : Found} (g : Going s at t) where
-  pub ended : cutAt s at ≡ End → t ≡ foundAll (recordsFrom s 2)
+module _ {v : ℕ} {s : List ℕ} {at : ℕ} {t : Found} (g : Going v s at t) where
+  pub ended : cutAt s at ≡ End → t ≡ foundAll (recordsFrom v s 2)
   unfolding wrongIn sumOf
-  ended e = sym (both-none t) ∙ rw (at-end s at e) at (g .state)
+  ended e = sym (both-none t) ∙ rw (at-end v s at e) at (g .state)
 
   -- a part of a sum that is not above 2 ^ 32
   part : (a c d top : ℕ) → a + c ≡ d → d ≤ top → top ≤ 4294967296 → a < 18446744073709551616
@@ -77,45 +80,45 @@ module _ {s : List ℕ} {at : ℕ} {t : Found} (g : Going s at t) where
   -- joining nothing adds nothing
   pub fits-none : (w : Mark) → length s ≤ 65536 → Fits t (nothing w)
   fits-none w h =
-      let rest = foundAll (recordsFrom s at) in
+      let rest = foundAll (recordsFrom v s at) in
       record {
         records =
             rw (add-zero (t .sums .records))
-            (part _ (rest .sums .records) _ _ (ap (λ (x : Found). x .sums .records) (g .state)) (count-low s h) (omega arith));
+            (part _ (rest .sums .records) _ _ (ap (λ (x : Found). x .sums .records) (g .state)) (count-low v s h) (omega arith));
         calls =
             rw (add-zero (t .sums .calls))
-            (part _ (rest .sums .calls) _ _ (ap (λ (x : Found). x .sums .calls) (g .state)) (calls-low s h) (omega arith));
+            (part _ (rest .sums .calls) _ _ (ap (λ (x : Found). x .sums .calls) (g .state)) (calls-low v s h) (omega arith));
         halves =
             rw (add-zero (t .sums .halves))
-            (part _ (rest .sums .halves) _ _ (ap (λ (x : Found). x .sums .halves) (g .state)) (halves-low s h) (omega arith));
+            (part _ (rest .sums .halves) _ _ (ap (λ (x : Found). x .sums .halves) (g .state)) (halves-low v s h) (omega arith));
         «read_bytes» =
             rw (add-zero (t .sums .«read_bytes»))
-            (part _ (rest .sums .«read_bytes») _ _ (ap (λ (x : Found). x .sums .«read_bytes») (g .state)) (read-bytes-low s h) (omega arith));
+            (part _ (rest .sums .«read_bytes») _ _ (ap (λ (x : Found). x .sums .«read_bytes») (g .state)) (read-bytes-low v s h) (omega arith));
       }
 
-  pub cut-short : cutAt s at ≡ Short → both t (nothing (At at)) ≡ foundAll (recordsFrom s 2)
+  pub cut-short : cutAt s at ≡ Short → both t (nothing (At at)) ≡ foundAll (recordsFrom v s 2)
   unfolding wrongIn sumOf
-  cut-short e = rw (at-short s at e) at (g .state)
+  cut-short e = rw (at-short v s at e) at (g .state)
 
   -- the next record, and where the one after it begins
-  module _ (r : Record) (next : ℕ) (is : recordsFrom s at ≡ item at r (recordsFrom s next)) where
+  module _ (r : Record) (next : ℕ) (is : recordsFrom v s at ≡ item at r (recordsFrom v s next)) where
     abbrev f : Found
     f = foundIn at r
 
     abbrev rest : Found
-    rest = foundAll (recordsFrom s next)
+    rest = foundAll (recordsFrom v s next)
 
-    state : both (both t f) rest ≡ foundAll (recordsFrom s 2)
-    state = both-assoc t f rest ∙ ap (both t) (sym (found-item at r (recordsFrom s next))) ∙ rw is at (g .state)
+    state : both (both t f) rest ≡ foundAll (recordsFrom v s 2)
+    state = both-assoc t f rest ∙ ap (both t) (sym (found-item at r (recordsFrom v s next))) ∙ rw is at (g .state)
 
-    pub turn : next ≤ length s → Going s next (both t f)
+    pub turn : next ≤ length s → Going v s next (both t f)
     turn h = record { state = state; inside = omega arith }
 
     pub fits : length s ≤ 65536 → Fits t f
     fits h =
         record {
-          records = part _ (rest .sums .records) _ _ (ap (λ (x : Found). x .sums .records) state) (count-low s h) (omega arith);
-          calls = part _ (rest .sums .calls) _ _ (ap (λ (x : Found). x .sums .calls) state) (calls-low s h) (omega arith);
-          halves = part _ (rest .sums .halves) _ _ (ap (λ (x : Found). x .sums .halves) state) (halves-low s h) (omega arith);
-          «read_bytes» = part _ (rest .sums .«read_bytes») _ _ (ap (λ (x : Found). x .sums .«read_bytes») state) (read-bytes-low s h) (omega arith);
+          records = part _ (rest .sums .records) _ _ (ap (λ (x : Found). x .sums .records) state) (count-low v s h) (omega arith);
+          calls = part _ (rest .sums .calls) _ _ (ap (λ (x : Found). x .sums .calls) state) (calls-low v s h) (omega arith);
+          halves = part _ (rest .sums .halves) _ _ (ap (λ (x : Found). x .sums .halves) state) (halves-low v s h) (omega arith);
+          «read_bytes» = part _ (rest .sums .«read_bytes») _ _ (ap (λ (x : Found). x .sums .«read_bytes») state) (read-bytes-low v s h) (omega arith);
         }

@@ -14,7 +14,7 @@ use Rattle.log_scan.specs.declared.answer.LogAnswer.{LogAnswer}
 use Rattle.log_scan.specs.declared.answer.LogAnswer.the-variants.{Done, TooLong, BadStart, WrongRecord, TooShort}
 use Rattle.log_scan.specs.declared.scan.Mark.{Mark}
 use Rattle.log_scan.specs.declared.scan.Mark.the-variants.{Clear, At}
-use Rattle.log_records.specs.Records.{recordsFrom, listed}
+use Rattle.log_records.specs.Records.{recordsOf, listed}
 use Rattle.log_scan.specs.Scan.{wrongIn, summed}
 use Rattle.log_scan.specs.Answers.{isDone, badStart, doneAs, orWrong, scannedAs, withinRoom, outAfter}
 
@@ -76,7 +76,7 @@ module _ (room : ℕ) where
     unfolding scannedAs withinRoom
     done-fits =
         pick-holds Fits _ _ _ (λ _ d. never _ _ d)
-        (λ _. pick-holds Fits _ _ _ (λ _ d. never _ _ d) (λ e. marked (wrongIn (recordsFrom s 2))))
+        (λ _. pick-holds Fits _ _ _ (λ _ d. never _ _ d) (λ e. marked (wrongIn (recordsOf s))))
 
     -- and its start was good
     abbrev Starts : LogAnswer → Type 0
@@ -88,9 +88,9 @@ module _ (room : ℕ) where
 
     -- and nothing was wrong in it
     abbrev Clears : LogAnswer → Type 0
-    Clears a = isDone (withinRoom room a) ≡ true → wrongIn (recordsFrom s 2) ≡ Clear
+    Clears a = isDone (withinRoom room a) ≡ true → wrongIn (recordsOf s) ≡ Clear
 
-    clear : (m : Mark) → wrongIn (recordsFrom s 2) ≡ m → Clears (orWrong m (doneAs n f (summed (listed s))))
+    clear : (m : Mark) → wrongIn (recordsOf s) ≡ m → Clears (orWrong m (doneAs n f (summed (listed s))))
     unfolding withinRoom
     clear Clear e d = e
     clear (At p) e d = cc
@@ -99,7 +99,7 @@ module _ (room : ℕ) where
     unfolding scannedAs withinRoom
     done-clear =
         pick-holds Clears _ _ _ (λ _ d. cc)
-        (λ _. pick-holds Clears _ _ _ (λ _ d. cc) (λ _. clear (wrongIn (recordsFrom s 2)) refl))
+        (λ _. pick-holds Clears _ _ _ (λ _ d. cc) (λ _. clear (wrongIn (recordsOf s)) refl))
 
 -- the output after it
 pub done-out : (a : LogAnswer) (bytes out : List ℕ) → isDone a ≡ true → outAfter a bytes out ≡ bytes ++ drop (length bytes) out

@@ -1,5 +1,5 @@
--- The scan of two logs in one: where nothing is wrong in the first, something is wrong in both exactly if it is in the second, and the sums are those of both.
--- Assumes nothing.
+-- The scan of two logs of one version in one: where nothing is wrong in the first, something is wrong in both exactly if it is in the second, and the sums are
+-- those of both. Assumes nothing.
 use Prim.Native.Nat.{ℕ, _+_, _≤_, _<_}
 use mathlib.Core.Path.{_≡_, refl, sym, _∙_, ap}
 use mathlib.Core.List.{List, _++_}
@@ -11,8 +11,8 @@ use lib.Dec.{eqb, ltb}
 use Rattle.ground.specs.Pick.{pick}
 use Rattle.log_records.specs.declared.judge.Record.{Record}
 use Rattle.log_records.specs.declared.judge.Record.the-variants.{Write, Read, Clock, Pcm, Wrong}
-use Rattle.log_records.specs.Records.{Parsed, done, short, item, recordsFrom, listed}
-use Rattle.log_records.proofs.Joining.{placeless, joined, whole, records-join, listed-join}
+use Rattle.log_records.specs.Records.{Parsed, done, short, item, recordsFrom, versionOf, recordsOf, listed}
+use Rattle.log_records.proofs.Joining.{placeless, joined, whole, records-join, version-join, listed-join}
 use Rattle.log_scan.specs.declared.scan.Mark.{Mark}
 use Rattle.log_scan.specs.declared.scan.Mark.the-variants.{Clear, At}
 use Rattle.log_scan.specs.declared.scan.Sums.{Sums}
@@ -57,23 +57,27 @@ joined-wrong (item p r rest) q e =
     let both = or-clear (wrongMark p r) (wrongIn rest) e in
     ap (λ (m : Mark). orMark m (wrongIn (joined rest q))) (both .0) ∙ joined-wrong rest q (both .1)
 
--- THE LAW
-module _ (s t : List ℕ) (h : 2 ≤ length s) (clear : wrongIn (recordsFrom s 2) ≡ Clear) where
-  w : whole (recordsFrom s 2) ≡ true
-  w = clear-whole (recordsFrom s 2) clear
+-- THE LAW, for two logs of one version
+module _ (s t : List ℕ) (h : 2 ≤ length s) (same : versionOf t ≡ versionOf s) (clear : wrongIn (recordsOf s) ≡ Clear) where
+  abbrev v : ℕ
+  v = versionOf s
+
+  w : whole (recordsOf s) ≡ true
+  w = clear-whole (recordsOf s) clear
 
   pub clear-listed-join : listed (s ++ drop 2 t) ≡ listed s ++ listed t
-  clear-listed-join = listed-join s t h w
+  clear-listed-join = listed-join s t h same w
 
   pub wrong-join : hasWrong (s ++ drop 2 t) ≡ hasWrong t
   wrong-join =
-      sym (placeless-wrong (recordsFrom (s ++ drop 2 t) 2))
-      ∙ ap (λ (p : Parsed). isPlace (wrongIn p)) (records-join s t h w)
-      ∙ ap isPlace (joined-wrong (placeless (recordsFrom s 2)) (placeless (recordsFrom t 2)) (placeless-clear (recordsFrom s 2) clear))
-      ∙ placeless-wrong (recordsFrom t 2)
+      rw (version-join s t h, same)
+      (sym (placeless-wrong (recordsFrom v (s ++ drop 2 t) 2))
+      ∙ ap (λ (p : Parsed). isPlace (wrongIn p)) (records-join v s t h w)
+      ∙ ap isPlace (joined-wrong (placeless (recordsOf s)) (placeless (recordsFrom v t 2)) (placeless-clear (recordsOf s) clear))
+      ∙ placeless-wrong (recordsFrom v t 2))
 
-  pub clear-join : wrongIn (recordsFrom t 2) ≡ Clear → wrongIn (recordsFrom (s ++ drop 2 t) 2) ≡ Clear
-  clear-join e = no-place (wrongIn (recordsFrom (s ++ drop 2 t) 2)) (wrong-join ∙ ap isPlace e)
+  pub clear-join : wrongIn (recordsOf t) ≡ Clear → wrongIn (recordsOf (s ++ drop 2 t)) ≡ Clear
+  clear-join e = no-place (wrongIn (recordsOf (s ++ drop 2 t))) (wrong-join ∙ ap isPlace e)
 
   pub sums-join : summed (listed (s ++ drop 2 t)) ≡ added (summed (listed s)) (summed (listed t))
   sums-join = ap summed clear-listed-join ∙ summed-append (listed s) (listed t)

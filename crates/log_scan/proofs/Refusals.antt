@@ -6,7 +6,7 @@ use mathlib.Core.List.{List}
 use lib.Dec.{ltb}
 use Rattle.ground.specs.Pick.{pick}
 use Rattle.clocks.specs.declared.meter.Meter.{Meter}
-use Rattle.log_records.specs.Records.{recordsFrom, listed}
+use Rattle.log_records.specs.Records.{recordsOf, listed}
 use Rattle.log_scan.specs.Scan.{wrongIn, summed}
 use Rattle.log_scan.specs.Answers.{refusalOf, returnedOf, isDone, tooLong, badStart, refusedFor, returnedFor, refusedWithin, isPlace, placeIn}
 use Rattle.log_scan.specs.Answers.{bytesBy, doneAs, orWrong, scannedAs, scannedFrom, withinRoom}
@@ -79,7 +79,7 @@ pub scan-refuses : (m : Meter) (s : List ℕ) {r : LogAnswer} → r ≡ scannedF
 unfolding scannedAs refusedFor returnedFor
 scan-refuses m s e =
     let sums = summed (listed s) in
-    let w = wrongIn (recordsFrom s 2) in
+    let w = wrongIn (recordsOf s) in
     (e, rw e (refusal _ _ sums (tooLong s) (badStart s) w, number _ _ sums (tooLong s) (badStart s) w))
 
 pub within-refuses : (room : ℕ) (a : LogAnswer) {r : LogAnswer} → r ≡ withinRoom room a
@@ -91,5 +91,5 @@ pub log-refuses : (room written frames : ℕ) (s : List ℕ)
 unfolding scannedAs refusedWithin returnedFor
 log-refuses room written frames s =
     let sums = summed (listed s) in
-    let m = wrongIn (recordsFrom s 2) in
+    let m = wrongIn (recordsOf s) in
     (last written frames sums room (tooLong s) (badStart s) m, same-number room _ ∙ number written frames sums (tooLong s) (badStart s) m)

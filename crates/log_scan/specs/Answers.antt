@@ -1,6 +1,6 @@
 -- What a log is answered, and document 01's numbers for it: "What each call may refuse", 3 to 6. Assumes nothing.
 use Prim.Native.Nat.{ℕ, _+_, _*_, _^_, _<_}
-use mathlib.Core.Bool.{Bool, true, false, not, _||_}
+use mathlib.Core.Bool.{Bool, true, false, not, _&&_, _||_}
 use mathlib.Core.List.{List, [], _∷_, _++_}
 use lib.ListN.{length, getD, drop}
 use lib.Dec.{ltb, leb, eqb}
@@ -15,7 +15,7 @@ use Rattle.log_scan.specs.declared.scan.Mark.{Mark}
 use Rattle.log_scan.specs.declared.scan.Mark.the-variants.{Clear, At}
 use Rattle.log_scan.specs.declared.scan.Sums.{Sums}
 use Rattle.log_items.specs.Items.{frameLength}
-use Rattle.log_records.specs.Records.{recordsFrom, listed}
+use Rattle.log_records.specs.Records.{versionOf, recordsOf, listed}
 use Rattle.log_scan.specs.Scan.{wrongIn, summed}
 
 -- the refusal's number in document 01; 0 stands for none
@@ -52,9 +52,9 @@ isDone (TooShort needed) = false
 abbrev pub tooLong : List ℕ → Bool
 tooLong s = ltb 65536 (length s)
 
--- 4: "log under 2 bytes, version not 1, or start byte above 3"
+-- 4: "log under 2 bytes, .. or start byte above 3"; "4 now means version neither 1 nor 2"
 unfoldable pub badStart : List ℕ → Bool
-badStart s = pick (ltb (length s) 2) true (not (eqb (getD s 0 0) 1) || ltb 3 (getD s 1 0))
+badStart s = pick (ltb (length s) 2) true ((not (eqb (versionOf s) 1) && not (eqb (versionOf s) 2)) || ltb 3 (getD s 1 0))
 
 -- 5: "a wrong record": whether there is one, and "place of its first length byte"
 abbrev pub isPlace : Mark → Bool
@@ -66,10 +66,10 @@ placeIn Clear = 0
 placeIn (At place) = place
 
 abbrev pub hasWrong : List ℕ → Bool
-hasWrong s = isPlace (wrongIn (recordsFrom s 2))
+hasWrong s = isPlace (wrongIn (recordsOf s))
 
 abbrev pub wrongPlace : List ℕ → ℕ
-wrongPlace s = placeIn (wrongIn (recordsFrom s 2))
+wrongPlace s = placeIn (wrongIn (recordsOf s))
 
 -- "3 to 6 are tried in that order": 3 to 5, or what comes after them
 abbrev pub firstRefused : List ℕ → ℕ → ℕ
@@ -114,7 +114,7 @@ unfoldable pub scannedAs : ℕ → ℕ → List ℕ → LogAnswer
 scannedAs written frames s =
     pick (tooLong s) TooLong
     (pick (badStart s) BadStart
-    (orWrong (wrongIn (recordsFrom s 2)) (doneAs written frames (summed (listed s)))))
+    (orWrong (wrongIn (recordsOf s)) (doneAs written frames (summed (listed s)))))
 
 -- with bytes and frames by the formula
 abbrev pub scannedFrom : Meter → List ℕ → LogAnswer

@@ -63,6 +63,10 @@ added a b =
 abbrev pub both : Found → Found → Found
 both a b = record { wrong = orMark (a .wrong) (b .wrong); sums = added (a .sums) (b .sums) }
 
+-- the same where nothing is wrong in the second
+abbrev pub goodBoth : Found → Found → Found
+goodBoth a b = record { wrong = a .wrong; sums = added (a .sums) (b .sums) }
+
 -- sums that stay in 64 bits
 pub record Fits (a b : Found) : Type 0 where
   pub records : a .sums .records + b .sums .records < 2 ^ 64

@@ -16,6 +16,7 @@ use crate::scan::scan_list;
 use clocks::meter::Meter;
 use clocks::meter::frames_from;
 use log_items::items::FRAME_BYTES;
+use log_records::cut::version_of;
 
 // What playing a log answers: what was done, or why it was refused.
 pub enum LogAnswer {
@@ -35,14 +36,15 @@ pub enum LogAnswer {
     },
 }
 
-// Whether a log's first two bytes are wrong: version 1, then a start byte from 0 to 3.
+// Whether a log's first two bytes are wrong: version 1 or 2, then a start byte from 0 to 3.
 fn bad_start(log: &[u8]) -> bool
     ensures { λ r. ⌜ r ≡ badStart (now (log .entry)) ⌝ }
 {
     if log.len() < 2 {
         return true;
     }
-    (log[0] != 1) | (3 < log[1])
+    let version = log[0];
+    ((version != 1) & (version != 2)) | (3 < log[1])
 }
 
 // What good records are answered: 41 bytes for a frame, and those of reads.
@@ -76,7 +78,7 @@ pub fn scan_from(log: &[u8], meter: Meter) -> LogAnswer
     if bad {
         return LogAnswer::BadStart;
     }
-    let found = scan_list(log);
+    let found = scan_list(version_of(log), log);
     let wrong = found.wrong;
     match wrong {
         Mark::Clear => counted(meter, found.sums),

@@ -7,7 +7,7 @@ ghost use Rattle.clocks.specs.Calls.{halfClocksOf};
 ghost use Rattle.log_records.specs.Judge.{judgeOf};
 ghost use Rattle.log_records.specs.Records.{recordsFrom};
 ghost use Rattle.log_scan.specs.declared.scan.Mark.the-variants.{Clear};
-ghost use Rattle.log_scan.specs.Scan.{Fits, orMark, both, oneFound, nothing, foundIn, foundAll};
+ghost use Rattle.log_scan.specs.Scan.{Fits, orMark, both, goodBoth, oneFound, nothing, foundIn, foundAll};
 use clocks::sample_counter::half_clocks;
 use log_records::cut::Cut;
 use log_records::cut::cut_at;
@@ -65,6 +65,25 @@ fn join(a: Found, b: Found) -> Found
     }
 }
 
+// The same where nothing is wrong in the second: the first one's mark stays as it is. (Made anew for each record, it took a tenth of a scan.)
+fn join_good(a: Found, b: Found) -> Found
+    requires { ⌜ Fits a b ⌝ }
+    ensures { λ r. ⌜ r ≡ goodBoth a b ⌝ }
+{
+    let wrong = a.wrong;
+    let sums = a.sums;
+    let more = b.sums;
+    Found {
+        wrong,
+        sums: Sums {
+            records: sums.records + more.records,
+            calls: sums.calls + more.calls,
+            halves: sums.halves + more.halves,
+            read_bytes: sums.read_bytes + more.read_bytes,
+        },
+    }
+}
+
 // What one record has.
 fn one_record(wrong: Mark, calls: u64, halves: u64, bytes: u64) -> Found
     ensures { λ r. ⌜ r ≡ oneFound wrong calls halves bytes ⌝ }
@@ -103,11 +122,11 @@ fn one_clock(double: bool, count: u16) -> Found
     one_record(Mark::Clear, calls, calls * (half_clocks(double) as u64), 0)
 }
 
-// What a record's body has, its first length byte at the place.
-fn scan_record(body: &[u8], place: usize) -> Found
-    ensures { λ r. ⌜ r ≡ foundIn place (judgeOf (now (body .entry))) ⌝ }
+// What a record's body has in a log of a version, its first length byte at the place.
+fn scan_record(version: u8, body: &[u8], place: usize) -> Found
+    ensures { λ r. ⌜ r ≡ foundIn place (judgeOf version (now (body .entry))) ⌝ }
 {
-    match judge(body) {
+    match judge(version, body) {
         Record::Write { addr: _, value: _ } => one_record(Mark::Clear, 0, 0, 0),
         Record::Read { addr: _ } => one_record(Mark::Clear, 0, 0, 2),
         Record::Clock {
@@ -120,18 +139,18 @@ fn scan_record(body: &[u8], place: usize) -> Found
     }
 }
 
-// What a log's records have, which begin after its first two bytes.
-pub fn scan_list(log: &[u8]) -> Found
+// What the records of a log of a version have, which begin after its first two bytes.
+pub fn scan_list(version: u8, log: &[u8]) -> Found
     requires { ⌜ length (now log) ≤ 65536 ⌝ }
-    ensures { λ r. ⌜ r ≡ foundAll (recordsFrom (now (log .entry)) 2) ⌝ }
+    ensures { λ r. ⌜ r ≡ foundAll (recordsFrom version (now (log .entry)) 2) ⌝ }
 {
     let mut found = none(Mark::Clear);
     let mut at: usize = 2;
     loop {
-        let clocks = clocks_at(log, at);
+        let clocks = clocks_at(version, log, at);
         if clocks.right {
-            found = join(found, one_clock(clocks.double, clocks.count));
-            at += 7;
+            found = join_good(found, one_clock(clocks.double, clocks.count));
+            at = clocks.end;
         } else {
             match cut_at(log, at) {
                 Cut::End => {
@@ -144,7 +163,7 @@ pub fn scan_list(log: &[u8]) -> Found
                 Cut::Body { len } => {
                     let from = at + 2;
                     let to = from + len;
-                    let more = scan_record(&log[from..to], at);
+                    let more = scan_record(version, &log[from..to], at);
                     found = join(found, more);
                     at = to;
                 }

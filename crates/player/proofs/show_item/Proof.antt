@@ -16,7 +16,7 @@ play-record-requires : tie.Need-play-record-requires
 play-record-requires c κs =
     let args = c .before .before .before .before .before .args in
     let pre = c .before .before .before .before .before .pre in
-    (pre .0 .0, (pre .0 .1, (rw (zero-add (length (bytesOf (judgeOf (now (args .body))) (args .s .apu)))) (pre .1))))
+    (pre .0 .0, (pre .0 .1, (rw (zero-add (length (bytesOf (judgeOf (args .version) (now (args .body))) (args .s .apu)))) (pre .1))))
 
 slice-reshare-prefix-put-items : tie.Need-slice-reshare-prefix-put-items
 slice-reshare-prefix-put-items c =
@@ -24,7 +24,7 @@ slice-reshare-prefix-put-items c =
     let start = played .before .before .before .before .before .before in
     let e = ap (λ (x : Play). x .at) (played .play-record .ensures .0) in
     let r = start .pre .1 in
-    let k = played .play-record .kept .1 .1 .0 in
+    let k = played .play-record .kept .1 .1 .1 .0 in
     omega (arith, e, r, k)
 
 slice-aggregate-put-items : tie.Need-slice-aggregate-put-items
@@ -33,7 +33,7 @@ slice-aggregate-put-items c =
     let start = played .before .before .before .before .before .before in
     let e = ap (λ (x : Play). x .at) (played .play-record .ensures .0) in
     let r = start .pre .1 in
-    let k = played .play-record .kept .1 .1 .0 in
+    let k = played .play-record .kept .1 .1 .1 .0 in
     prefix-counts _ _ (omega (arith, e, r, k))
 
 put-items-requires : tie.Need-put-items-requires
@@ -43,7 +43,7 @@ put-items-requires c κs =
 same-length : tie.Need-same-length
 same-length c =
     let play-record = c .before .before .before .before .before .before .before .before .play-record in
-    play-record .kept .1 .1 .0
+    play-record .kept .1 .1 .1 .0
 
 same-length-2 : tie.Need-same-length-2
 same-length-2 c =

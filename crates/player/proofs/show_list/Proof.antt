@@ -5,17 +5,18 @@ use Prim.Native.Nat.{_+_, _-_}
 use mathlib.Core.Path.{sym, _∙_}
 use native.Mathlib.Nat.{add-sub-cancel-left}
 use lib.ListN.{length}
-use Rattle.log_records.specs.Records.{recordsFrom, unrolled, listed}
+use Rattle.log_records.specs.Records.{recordsFrom, unrolled, listedAs}
 use Rattle.log_records.proofs.Framing.{body-fits, list-end, list-short, list-body}
 use Rattle.player.proofs.Showing.{Showing, showing, show-on, shown-all}
 use Rattle.player.proofs.show_list.Statement.{statement}
 use Rattle.player.proofs.show_list.Tie as tie
 
 abbrev Inv-loop : tie.InvT-loop
-Inv-loop log bytes₀ text₀ q₀ at₀ bytes text q at = Showing (listed log) (q₀ .apu) bytes₀ text₀ (unrolled (recordsFrom log at)) (q .apu) bytes text
+Inv-loop version log bytes₀ text₀ q₀ at₀ bytes text q at =
+    Showing (listedAs version log) (q₀ .apu) bytes₀ text₀ (unrolled (recordsFrom version log at)) (q .apu) bytes text
 
 abbrev μ-loop : tie.MeasureT-loop
-μ-loop log bytes₀ text₀ q₀ at₀ bytes text q at = length log - at
+μ-loop version log bytes₀ text₀ q₀ at₀ bytes text q at = length log - at
 
 loop-holds : tie.Need-loop-holds Inv-loop μ-loop
 loop-holds c =
@@ -42,7 +43,7 @@ returns : tie.Need-returns Inv-loop μ-loop
 returns c =
     let cut = c .before .before in
     let turn = cut .before in
-    shown-all (turn .loop .inv) (list-end _ _ (sym (cut .cut-at .ensures) ∙ c .enum-told .given .1))
+    shown-all (turn .loop .inv) (list-end _ _ _ (sym (cut .cut-at .ensures) ∙ c .enum-told .given .1))
 
 enum-told-2 : tie.Need-enum-told-2 Inv-loop μ-loop
 enum-told-2 c =
@@ -60,7 +61,7 @@ returns-2 : tie.Need-returns-2 Inv-loop μ-loop
 returns-2 c =
     let cut = c .before .before in
     let turn = cut .before in
-    shown-all (turn .loop .inv) (list-short _ _ (sym (cut .cut-at .ensures) ∙ c .enum-told2 .given .1))
+    shown-all (turn .loop .inv) (list-short _ _ _ (sym (cut .cut-at .ensures) ∙ c .enum-told2 .given .1))
 
 enum-known-len : tie.Need-enum-known-len Inv-loop μ-loop
 enum-known-len c =
@@ -113,9 +114,9 @@ loop-again c =
     let turn = cut .before in
     let n = body .len .given in
     let k = add-sub-cancel-left (turn .loop .at + 2) (n .0 .0) in
-    let b = list-body _ (turn .loop .at) (n .0 .0) (sym (cut .cut-at .ensures) ∙ n .1) in
+    let b = list-body _ _ (turn .loop .at) (n .0 .0) (sym (cut .cut-at .ensures) ∙ n .1) in
     let e = rw k at (shown .show-record .ensures) in
-    let kept = shown .show-record .kept .1 .1 in
+    let kept = shown .show-record .kept .1 .1 .1 in
     show-on (turn .loop .inv) _ _ _ _ _ b (e .0) (e .1) (kept .0) (kept .1 .0)
 
 pub show-list-spec : {M : Type 1} → statement M

@@ -16,6 +16,10 @@ start-requires : tie.Need-start-requires
 start-requires c κs =
     search needs
 
+version-of-requires : tie.Need-version-of-requires
+version-of-requires c κs =
+    search needs
+
 slice-aggregate-show-list : tie.Need-slice-aggregate-show-list
 slice-aggregate-show-list c =
     search needs
@@ -26,8 +30,8 @@ slice-aggregate-show-list-2 c =
 
 show-list-requires : tie.Need-show-list-requires
 show-list-requires c κs =
-    let start = c .before .before .start in
-    let large-buffer = c .before .before .before .before .large-buffer in
+    let start = c .before .before .before .start in
+    let large-buffer = c .before .before .before .before .before .large-buffer in
     (start .ensures .1, sym (large-buffer .ensures))
 
 slice-aggregate-flush : tie.Need-slice-aggregate-flush
@@ -49,6 +53,7 @@ show-log-spec =
     large-buffer-requires
     large-buffer-requires-2
     start-requires
+    version-of-requires
     slice-aggregate-show-list
     slice-aggregate-show-list-2
     show-list-requires

@@ -23,7 +23,7 @@ show-item-requires c κs =
     let start = judged .before .before .before .before in
     let e = sym (judged .judge .ensures) ∙ write .addr .given .1 in
     let a = start .args in
-    (start .pre .0, few (judgeOf (now (a .body))) (a .s .apu) (now (a .bytes)) (start .pre .1) (rw e (omega arith)))
+    (start .pre .0, few (judgeOf (a .version) (now (a .body))) (a .s .apu) (now (a .bytes)) (start .pre .1) (rw e (omega arith)))
 
 enum-known-addr-2 : tie.Need-enum-known-addr-2
 enum-known-addr-2 c =
@@ -36,7 +36,7 @@ show-item-requires-2 c κs =
     let start = judged .before .before .before .before in
     let e = sym (judged .judge .ensures) ∙ read .addr2 .given .1 in
     let a = start .args in
-    (start .pre .0, few (judgeOf (now (a .body))) (a .s .apu) (now (a .bytes)) (start .pre .1) (rw e (omega arith)))
+    (start .pre .0, few (judgeOf (a .version) (now (a .body))) (a .s .apu) (now (a .bytes)) (start .pre .1) (rw e (omega arith)))
 
 enum-known-double : tie.Need-enum-known-double
 enum-known-double c =
@@ -58,7 +58,7 @@ show-item-requires-3 c κs =
     let start = judged .before .before .before .before in
     let e = sym (judged .judge .ensures) ∙ pcm .enum-told .given .1 in
     let a = start .args in
-    (start .pre .0, few (judgeOf (now (a .body))) (a .s .apu) (now (a .bytes)) (start .pre .1) (rw e (omega arith)))
+    (start .pre .0, few (judgeOf (a .version) (now (a .body))) (a .s .apu) (now (a .bytes)) (start .pre .1) (rw e (omega arith)))
 
 enum-told-2 : tie.Need-enum-told-2
 enum-told-2 c =
@@ -71,17 +71,17 @@ show-item-requires-4 c κs =
     let start = judged .before .before .before .before in
     let e = sym (judged .judge .ensures) ∙ wrong .enum-told2 .given .1 in
     let a = start .args in
-    (start .pre .0, few (judgeOf (now (a .body))) (a .s .apu) (now (a .bytes)) (start .pre .1) (rw e (omega arith)))
+    (start .pre .0, few (judgeOf (a .version) (now (a .body))) (a .s .apu) (now (a .bytes)) (start .pre .1) (rw e (omega arith)))
 
 same-length : tie.Need-same-length
 same-length c =
     let show-item = c .before .before .before .before .show-item in
-    show-item .kept .1 .1 .1 .0
+    show-item .kept .1 .1 .1 .1 .0
 
 same-length-2 : tie.Need-same-length-2
 same-length-2 c =
     let show-item = c .before .before .before .before .show-item in
-    show-item .kept .1 .1 .1 .1 .0
+    show-item .kept .1 .1 .1 .1 .1 .0
 
 returns : tie.Need-returns
 returns c =
@@ -91,12 +91,12 @@ returns c =
 same-length-3 : tie.Need-same-length-3
 same-length-3 c =
     let show-item2 = c .before .before .before .before .show-item2 in
-    show-item2 .kept .1 .1 .1 .0
+    show-item2 .kept .1 .1 .1 .1 .0
 
 same-length-4 : tie.Need-same-length-4
 same-length-4 c =
     let show-item2 = c .before .before .before .before .show-item2 in
-    show-item2 .kept .1 .1 .1 .1 .0
+    show-item2 .kept .1 .1 .1 .1 .1 .0
 
 returns-2 : tie.Need-returns-2
 returns-2 c =
@@ -116,22 +116,22 @@ same-length-6 c =
 returns-3 : tie.Need-returns-3
 returns-3 c =
     let shown = c .before .before .before .before in
-    let clock = shown .before .before .before .before in
-    let judged = clock .before .before in
-    let start = judged .before .before .before .before in
+    let double = c .before .before .before .before .before .before .before .before .double in
+    let judge = c .before .before .before .before .before .before .before .before .before .before .judge in
+    let start = c .before .before .before .before .before .before .before .before .before .before .before .before .before .before in
     let a = start .args in
-    let e = sym (judged .judge .ensures) ∙ clock .double .given .1 in
-    clocked-shown (judgeOf (now (a .body))) _ _ _ (a .s .apu) _ e (shown .show-clocks .ensures) (start .pre .0)
+    let e = sym (judge .ensures) ∙ double .given .1 in
+    clocked-shown (judgeOf (a .version) (now (a .body))) _ _ _ (a .s .apu) _ e (shown .show-clocks .ensures) (start .pre .0)
 
 same-length-7 : tie.Need-same-length-7
 same-length-7 c =
     let show-item3 = c .before .before .before .before .show-item3 in
-    show-item3 .kept .1 .1 .1 .0
+    show-item3 .kept .1 .1 .1 .1 .0
 
 same-length-8 : tie.Need-same-length-8
 same-length-8 c =
     let show-item3 = c .before .before .before .before .show-item3 in
-    show-item3 .kept .1 .1 .1 .1 .0
+    show-item3 .kept .1 .1 .1 .1 .1 .0
 
 returns-4 : tie.Need-returns-4
 returns-4 c =
@@ -141,12 +141,12 @@ returns-4 c =
 same-length-9 : tie.Need-same-length-9
 same-length-9 c =
     let show-item4 = c .before .before .before .before .show-item4 in
-    show-item4 .kept .1 .1 .1 .0
+    show-item4 .kept .1 .1 .1 .1 .0
 
 same-length-10 : tie.Need-same-length-10
 same-length-10 c =
     let show-item4 = c .before .before .before .before .show-item4 in
-    show-item4 .kept .1 .1 .1 .1 .0
+    show-item4 .kept .1 .1 .1 .1 .1 .0
 
 returns-5 : tie.Need-returns-5
 returns-5 c =

@@ -28,7 +28,7 @@ sub-same-bit : tie.Need-sub-same-bit Inv-loop μ-loop
 sub-same-bit c = omega arith
 
 same-bit-requires : tie.Need-same-bit-requires Inv-loop μ-loop
-same-bit-requires c κs = omega arith
+same-bit-requires c κs = (search needs, omega arith)
 
 divider-at-requires : tie.Need-divider-at-requires Inv-loop μ-loop
 divider-at-requires c κs = search needs
@@ -41,8 +41,17 @@ meet-requires c κs =
     let inv = c .before .before .before .before .loop .inv in
     (inv .going .ready .held .clocks, omega (arith, inv .left, c .before .before .same-bit .ensures .1 .0 .1))
 
+cast-i : tie.Need-cast-i Inv-loop μ-loop
+cast-i c =
+    let same-bit = c .before .before .before .same-bit in
+    let fits = c .before .before .before .before .before .before .before .before .fits in
+    omega (arith, same-bit .ensures .1 .0 .1, fits)
+
 add-i : tie.Need-add-i Inv-loop μ-loop
-add-i c = omega arith
+add-i c =
+    let same-bit = c .before .before .before .same-bit in
+    let fits = c .before .before .before .before .before .before .before .before .fits in
+    omega (arith, same-bit .ensures .1 .0 .1, fits)
 
 add-fall : tie.Need-add-fall Inv-loop μ-loop
 add-fall c =
@@ -137,11 +146,15 @@ play-clocks-spec =
     Inv-loop
     μ-loop
     loop-holds
+    (λ c. search needs)
     sub-same-bit
+    (λ c. search needs)
     same-bit-requires
+    (λ c. search needs)
     divider-at-requires
     sequencer-bit-requires
     meet-requires
+    cast-i
     add-i
     add-fall
     fall-requires

@@ -25,9 +25,6 @@ add-place-2 c = search needs
 until-change-requires : tie.Need-until-change-requires
 until-change-requires c κs = search needs
 
-cast-result : tie.Need-cast-result
-cast-result c = search needs
-
 returns : tie.Need-returns
 unfolding pick
 returns c =
@@ -45,12 +42,12 @@ returns-2 c =
     let start = c .before .before .before .before .before in
     let running = c .before .before .before .before .if1 .taken in
     let change = c .before .until-change .ensures in
-    (rw (running, ← change, le-leb _ _ (c .if2 .left)), ((start .pre, omega arith), runs _ (start .args .divider) _ _ running (omega (arith, change))))
+    (rw (running, ← change, le-leb _ _ (c .if2 .left)), ((start .pre .1, omega arith), runs _ (start .args .divider) _ _ running (omega (arith, change))))
 
 returns-3 : tie.Need-returns-3
 unfolding pick
 returns-3 c =
-    (rw (c .if1 .left), ((c .before .pre, omega arith), stands _ (c .before .args .divider) _ _ (c .if1 .left)))
+    (rw (c .if1 .left), ((c .before .pre .1, omega arith), stands _ (c .before .args .divider) _ _ (c .if1 .left)))
 
 pub same-bit-spec : {M : Type 1} → statement M
 same-bit-spec =
@@ -62,7 +59,6 @@ same-bit-spec =
     add-place
     add-place-2
     until-change-requires
-    cast-result
     returns
     returns-2
     returns-3)

@@ -12,9 +12,8 @@ sound-channel-spec =
     (λ c κs. search needs)
     (λ c κs. search needs)
     (λ c κs. search needs)
-    (λ c κs. search needs)
     (λ c.
     let third = c in
     let second = third .before in
     let first = second .before in
-    rw (third .choose3 .ensures, second .choose2 .ensures, first .choose .ensures, first .before .whole .ensures)))
+    rw (third .choose3 .ensures, second .choose2 .ensures, first .choose .ensures)))

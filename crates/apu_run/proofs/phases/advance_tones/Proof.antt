@@ -8,28 +8,28 @@ use Rattle.apu_run.proofs.phases.advance_tones.Tie as tie
 advance-near-requires : tie.Need-advance-near-requires
 advance-near-requires c κs =
     let if1 = c .if1 in
-    let slow = c .before .slow in
+    let least = c .before .near in
     let back10 = c .before .before .before .before .before .before .before .before .before .before in
     let start = back10 .before in
-    let near = near-of (start .args .settings) (start .args .n) _ (slow .ensures) (if1 .taken) in
+    let near = near-of (start .args .n) _ _ _ _ (least .ensures) (if1 .taken) in
     (start .pre .0 .pulse1, (omega arith, omega (arith, near .pulse1)))
 
 advance-near-requires-2 : tie.Need-advance-near-requires-2
 advance-near-requires-2 c κs =
     let if1 = c .before .if1 in
-    let slow = c .before .before .slow in
+    let least = c .before .before .near in
     let back10 = c .before .before .before .before .before .before .before .before .before .before in
     let start = back10 .before .before in
-    let near = near-of (start .args .settings) (start .args .n) _ (slow .ensures) (if1 .taken) in
+    let near = near-of (start .args .n) _ _ _ _ (least .ensures) (if1 .taken) in
     (start .pre .0 .pulse2, (omega arith, omega (arith, near .pulse2)))
 
 advance-near-requires-3 : tie.Need-advance-near-requires-3
 advance-near-requires-3 c κs =
     let if1 = c .before .before .if1 in
-    let slow = c .before .before .before .slow in
+    let least = c .before .before .before .near in
     let back10 = c .before .before .before .before .before .before .before .before .before .before in
     let start = back10 .before .before .before in
-    let near = near-of (start .args .settings) (start .args .n) _ (slow .ensures) (if1 .taken) in
+    let near = near-of (start .args .n) _ _ _ _ (least .ensures) (if1 .taken) in
     (start .pre .0 .wave, (omega arith, (near .some, omega (arith, near .wave))))
 
 returns : tie.Need-returns

@@ -23,31 +23,36 @@ returns c =
     let taken = sym (done .is-done .ensures) ∙ c .before .if1 .taken in
     no-room (args .apu) (now (args .log)) (now (args .out)) (now (args .after)) (answer .answer-on .ensures .0) taken (c .if2 .taken)
 
+-- the version is the log's own, so the records are too
 play-list-requires : tie.Need-play-list-requires
 play-list-requires c κs =
-    let done = c .before .before .before in
-    let answer = done .before in
-    let start = answer .before .before .before .before in
-    let args = start .args in
-    let taken = sym (done .is-done .ensures) ∙ c .before .before .if1 .taken in
-    let fits = room (args .apu) (now (args .log)) (now (args .out)) (answer .answer-on .ensures .0) taken in
-    (start .pre .held, (start .pre .floats, rw (zero-add (length (output (listed (now (args .log))) (args .apu)))) fits))
+    let version-of = c .before .version-of in
+    let if1 = c .before .before .before .if1 in
+    let is-done = c .before .before .before .before .is-done in
+    let answer-on = c .before .before .before .before .before .answer-on in
+    let args = c .before .before .before .before .before .before .before .before .before .args in
+    let ranges = c .before .before .before .before .before .before .before .before .before .pre in
+    let taken = sym (is-done .ensures) ∙ if1 .taken in
+    let fits = room (args .apu) (now (args .log)) (now (args .out)) (answer-on .ensures .0) taken in
+    (ranges .held, (ranges .floats, rw (version-of .ensures, zero-add (length (output (listed (now (args .log))) (args .apu)))) fits))
 
 returns-2 : tie.Need-returns-2
 returns-2 c =
-    let write = c .before .before in
-    let play = write .before .before .before .before in
-    let place = play .before .before in
-    let done = place .before .before in
-    let answer = done .before in
-    let args = answer .before .before .before .before .args in
-    let is = answer .answer-on .ensures .0 in
-    let taken = sym (done .is-done .ensures) ∙ place .before .if1 .taken in
+    let write-image = c .before .before .write-image in
+    let play-list = c .before .before .before .before .before .before .play-list in
+    let version-of = c .before .before .before .before .before .before .before .before .version-of in
+    let if2 = c .before .before .before .before .before .before .before .before .before .if2 in
+    let if1 = c .before .before .before .before .before .before .before .before .before .before .if1 in
+    let is-done = c .before .before .before .before .before .before .before .before .before .before .before .is-done in
+    let answer-on = c .before .before .before .before .before .before .before .before .before .before .before .before .answer-on in
+    let args = c .before .before .before .before .before .before .before .before .before .before .before .before .before .before .before .before .args in
+    let is = answer-on .ensures .0 in
+    let taken = sym (is-done .ensures) ∙ if1 .taken in
     let put = put-out (args .apu) (now (args .log)) (now (args .out)) is taken in
-    let unit = ap (λ (p : Play). p .apu) (play .play-list .ensures .0) in
-    let image = write .write-image .ensures .1 ∙ ap (λ (u : Apu). savedIn u (now (args .after))) unit in
-    let out = play .play-list .ensures .1 .0 ∙ put in
-    played (args .apu) (now (args .log)) (now (args .out)) (now (args .after)) is taken (place .if2 .left) out image
+    let all = rw (version-of .ensures) at (play-list .ensures) in
+    let unit = ap (λ (p : Play). p .apu) (all .0) in
+    let image = write-image .ensures .1 ∙ ap (λ (u : Apu). savedIn u (now (args .after))) unit in
+    played (args .apu) (now (args .log)) (now (args .out)) (now (args .after)) is taken (if2 .left) (all .1 .0 ∙ put) image
 
 returns-3 : tie.Need-returns-3
 returns-3 c =
@@ -64,6 +69,7 @@ play-kept-spec =
     (λ c κs. search needs)
     (λ c κs. search needs)
     returns
+    (λ c κs. search needs)
     play-list-requires
     (λ c κs. search needs)
     (λ c. search needs)

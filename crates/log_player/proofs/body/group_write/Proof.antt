@@ -1,82 +1,48 @@
--- By the power, and by what the judge says of the body. Assumes nothing.
+-- The definition asks what the code asks, in its order. Assumes nothing.
 use borrow.Author.Needs.{needs}
-use mathlib.Core.Path.{sym, ap, _∙_}
-use Rattle.ground.specs.Pick.{pick}
-use Rattle.log_player.specs.Bodies.{groupWriteOf}
+use mathlib.Core.Path.{sym, _∙_}
+use borrow.Author.Tests.{eq-eqb, ne-eqb}
+use denote.Ref.{now}
+use lib.ListN.{length}
+use Rattle.ground.proofs.Cases.{pick-true, pick-false}
+use Rattle.log_player.specs.Bodies.{groupWriteIn}
 use Rattle.log_player.proofs.body.group_write.Statement.{statement}
 use Rattle.log_player.proofs.body.group_write.Tie as tie
 
 returns : tie.Need-returns
-unfolding pick
+unfolding groupWriteIn
 returns c =
-    let group-at = c .group-at in
-    let addr = c .before .before .addr in
-    let judge = c .before .before .before .before .judge in
-    let if1 = c .before .before .before .before .before .if1 in
-    rw (if1 .taken) (group-at .ensures ∙ ap groupWriteOf (sym (addr .given .1) ∙ judge .ensures))
+    let no-write = c .no-write in
+    let if1 = c .before .if1 in
+    no-write .ensures ∙ sym (pick-false _ _ _ (ne-eqb _ 4 (if1 .taken)))
 
 returns-2 : tie.Need-returns-2
-unfolding pick
+unfolding groupWriteIn
 returns-2 c =
-    let no-write = c .no-write in
-    let addr2 = c .before .before .addr2 in
-    let judge = c .before .before .before .before .judge in
+    let group-at = c .group-at in
+    let word-at = c .before .before .word-at in
+    let if2 = c .before .before .before .if2 in
     let if1 = c .before .before .before .before .before .if1 in
-    rw (if1 .taken) (no-write .ensures ∙ ap groupWriteOf (sym (addr2 .given .1) ∙ judge .ensures))
+    rw (word-at .ensures) at (group-at .ensures) ∙ sym (pick-true _ _ _ (eq-eqb _ 4 (if1 .left)) ∙ pick-true _ _ _ (if2 .taken))
 
 returns-3 : tie.Need-returns-3
-unfolding pick
+unfolding groupWriteIn
 returns-3 c =
     let no-write2 = c .no-write2 in
-    let double = c .before .before .double in
-    let judge = c .before .before .before .before .judge in
-    let if1 = c .before .before .before .before .before .if1 in
-    rw (if1 .taken) (no-write2 .ensures ∙ ap groupWriteOf (sym (double .given .1) ∙ judge .ensures))
-
-returns-4 : tie.Need-returns-4
-unfolding pick
-returns-4 c =
-    let no-write3 = c .no-write3 in
-    let enum-told = c .before .enum-told in
-    let judge = c .before .before .before .judge in
-    let if1 = c .before .before .before .before .if1 in
-    rw (if1 .taken) (no-write3 .ensures ∙ ap groupWriteOf (sym (enum-told .given .1) ∙ judge .ensures))
-
-returns-5 : tie.Need-returns-5
-unfolding pick
-returns-5 c =
-    let no-write4 = c .no-write4 in
-    let enum-told2 = c .before .enum-told2 in
-    let judge = c .before .before .before .judge in
-    let if1 = c .before .before .before .before .if1 in
-    rw (if1 .taken) (no-write4 .ensures ∙ ap groupWriteOf (sym (enum-told2 .given .1) ∙ judge .ensures))
-
-returns-6 : tie.Need-returns-6
-unfolding pick
-returns-6 c =
-    let no-write5 = c .no-write5 in
-    let if1 = c .before .if1 in
-    rw (if1 .left) (no-write5 .ensures)
+    let if2 = c .before .if2 in
+    let if1 = c .before .before .before .if1 in
+    no-write2 .ensures ∙ sym (pick-true _ _ _ (eq-eqb _ 4 (if1 .left)) ∙ pick-false _ _ _ (if2 .left))
 
 pub group-write-spec : {M : Type 1} → statement M
 group-write-spec =
     tie.close
     (tie.spec
     (λ c κs. search needs)
-    (λ c. search needs)
-    (λ c κs. search needs)
-    (λ c. search needs)
-    (λ c κs. search needs)
-    (λ c. search needs)
-    (λ c κs. search needs)
-    (λ c. search needs)
-    (λ c κs. search needs)
-    (λ c. search needs)
-    (λ c κs. search needs)
     returns
-    returns-2
-    returns-3
-    returns-4
-    returns-5
+    (λ c. search needs)
     (λ c κs. search needs)
-    returns-6)
+    (λ c. search needs)
+    (λ c κs. search needs)
+    returns-2
+    (λ c κs. search needs)
+    returns-3)

@@ -22,32 +22,41 @@ answer-on-requires c κs = search needs
 is-done-requires : tie.Need-is-done-requires
 is-done-requires c κs = search needs
 
+version-of-requires : tie.Need-version-of-requires
+version-of-requires c κs = search needs
+
+-- the version is the log's own, so the records are too
 play-list-requires : tie.Need-play-list-requires
 play-list-requires c κs =
-    let done = c .before .before in
-    let answer = done .before in
-    let start = answer .before in
-    let args = start .before .before .before .before .args in
-    let taken = sym (done .is-done .ensures) ∙ c .before .if1 .taken in
-    let fits = room (start .start .result) (now (args .log)) (now (args .out)) (answer .answer-on .ensures .0) taken in
-    let ranges = start .start .ensures .1 in
-    (ranges .0, (ranges .1, rw (zero-add (length (output (listed (now (args .log))) (start .start .result)))) fits))
+    let version-of = c .before .version-of in
+    let if1 = c .before .before .if1 in
+    let is-done = c .before .before .before .is-done in
+    let answer-on = c .before .before .before .before .answer-on in
+    let start = c .before .before .before .before .before .start in
+    let args = c .before .before .before .before .before .before .before .before .before .args in
+    let taken = sym (is-done .ensures) ∙ if1 .taken in
+    let fits = room (start .result) (now (args .log)) (now (args .out)) (answer-on .ensures .0) taken in
+    let ranges = start .ensures .1 in
+    (ranges .0, (ranges .1, rw (version-of .ensures, zero-add (length (output (listed (now (args .log))) (start .result)))) fits))
 
 same-length : tie.Need-same-length
-same-length c = c .before .before .play-list .kept .1 .1 .0
+same-length c = c .before .before .play-list .kept .1 .1 .1 .0
 
 returns : tie.Need-returns
 returns c =
-    let play = c .before .before in
-    let done = play .before .before .before in
-    let answer = done .before in
-    let start = answer .before in
-    let args = start .before .before .before .before .args in
-    let unit = start .start .ensures .0 ∙ ap unitOfStart (start .before .start-byte .ensures) in
-    let taken = sym (done .is-done .ensures) ∙ play .before .before .if1 .taken in
-    let is = answer .answer-on .ensures .0 in
-    let put = put-out (start .start .result) (now (args .log)) (now (args .out)) is taken in
-    told-on (start .start .result) (now (args .log)) (now (args .out)) is unit (play .play-list .ensures .1 .0 ∙ put)
+    let play-list = c .before .before .play-list in
+    let version-of = c .before .before .before .before .version-of in
+    let if1 = c .before .before .before .before .before .if1 in
+    let is-done = c .before .before .before .before .before .before .is-done in
+    let answer-on = c .before .before .before .before .before .before .before .answer-on in
+    let start = c .before .before .before .before .before .before .before .before .start in
+    let start-byte = c .before .before .before .before .before .before .before .before .before .start-byte in
+    let args = c .before .before .before .before .before .before .before .before .before .before .before .before .args in
+    let unit = start .ensures .0 ∙ ap unitOfStart (start-byte .ensures) in
+    let taken = sym (is-done .ensures) ∙ if1 .taken in
+    let is = answer-on .ensures .0 in
+    let put = put-out (start .result) (now (args .log)) (now (args .out)) is taken in
+    told-on (start .result) (now (args .log)) (now (args .out)) is unit (rw (version-of .ensures) at (play-list .ensures .1 .0) ∙ put)
 
 returns-2 : tie.Need-returns-2
 returns-2 c =
@@ -69,6 +78,7 @@ play-log-spec =
     start-requires
     answer-on-requires
     is-done-requires
+    version-of-requires
     play-list-requires
     same-length
     returns

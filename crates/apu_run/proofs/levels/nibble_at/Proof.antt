@@ -4,8 +4,8 @@ use native.Mathlib.Omega.{arith}
 use borrow.Author.Tests.{eq-eqb, ne-eqb}
 use Rattle.ground.specs.Pick.{pick}
 use Rattle.apu_run.specs.FrameSettings.{nibbleAt}
-use Rattle.apu_run.proofs.frame_step.nibble_at.Statement.{statement}
-use Rattle.apu_run.proofs.frame_step.nibble_at.Tie as tie
+use Rattle.apu_run.proofs.levels.nibble_at.Statement.{statement}
+use Rattle.apu_run.proofs.levels.nibble_at.Tie as tie
 
 pub nibble-at-spec : {M : Type 1} → statement M
 unfolding pick nibbleAt

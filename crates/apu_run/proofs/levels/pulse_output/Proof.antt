@@ -5,8 +5,8 @@ use mathlib.Core.Path.{refl}
 use Prim.Native.Nat.{_-_, _/_, _%_, _^_}
 use Rattle.apu_run.specs.FrameSettings.{pulseOutput}
 use Rattle.apu_run.proofs.FrameSteps.{bit-most}
-use Rattle.apu_run.proofs.frame_step.pulse_output.Statement.{statement}
-use Rattle.apu_run.proofs.frame_step.pulse_output.Tie as tie
+use Rattle.apu_run.proofs.levels.pulse_output.Statement.{statement}
+use Rattle.apu_run.proofs.levels.pulse_output.Tie as tie
 
 mul-result : tie.Need-mul-result
 mul-result c = let a = c .args in omega (arith, bit-most (a .row / 2 ^ (7 - a .position) % 2) (a .volume) (omega arith) (c .pre .1))

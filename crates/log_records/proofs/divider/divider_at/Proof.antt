@@ -1,9 +1,9 @@
 -- By whether it runs. Assumes nothing.
 use borrow.Author.Needs.{needs}
 use Rattle.ground.proofs.Cases.{pick-true, pick-false}
-use Rattle.apu_run.specs.Calls.{dividerAt}
-use Rattle.apu_run.proofs.calls.divider_at.Statement.{statement}
-use Rattle.apu_run.proofs.calls.divider_at.Tie as tie
+use Rattle.log_records.specs.Divider.{dividerAt}
+use Rattle.log_records.proofs.divider.divider_at.Statement.{statement}
+use Rattle.log_records.proofs.divider.divider_at.Tie as tie
 
 pub divider-at-spec : {M : Type 1} → statement M
 unfolding dividerAt

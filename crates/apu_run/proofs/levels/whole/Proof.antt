@@ -7,8 +7,8 @@ use Prim.Native.Nat.{ℕ, zero, suc, _+_, _≤_}
 use lib.Dec.{T}
 use lib.IntN.{pos}
 use lib.Ieee.{binary32, nanBits, ofBits, ofInt, sub}
-use Rattle.apu_run.proofs.frame_step.whole.Statement.{statement}
-use Rattle.apu_run.proofs.frame_step.whole.Tie as tie
+use Rattle.apu_run.proofs.levels.whole.Statement.{statement}
+use Rattle.apu_run.proofs.levels.whole.Tie as tie
 
 -- 4B000000 is the pattern of 2^23, and the next ones are those of the numbers after it
 whole-is : (n : ℕ) → n ≤ 15

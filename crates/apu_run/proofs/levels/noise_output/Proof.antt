@@ -4,8 +4,8 @@ use native.Mathlib.Omega.{arith}
 use mathlib.Core.Path.{refl}
 use Prim.Native.Nat.{_-_, _%_}
 use Rattle.apu_run.proofs.FrameSteps.{bit-most}
-use Rattle.apu_run.proofs.frame_step.noise_output.Statement.{statement}
-use Rattle.apu_run.proofs.frame_step.noise_output.Tie as tie
+use Rattle.apu_run.proofs.levels.noise_output.Statement.{statement}
+use Rattle.apu_run.proofs.levels.noise_output.Tie as tie
 
 mul-result : tie.Need-mul-result
 mul-result c = omega (arith, bit-most (1 - c .args .register % 2) (c .args .volume) (omega arith) (c .pre))

@@ -2,8 +2,8 @@
 use borrow.Author.Needs.{needs}
 use native.Mathlib.Nat.{div-le-self, le-trans}
 use Prim.Native.Nat.{_^_}
-use Rattle.apu_run.proofs.frame_step.wave_output.Statement.{statement}
-use Rattle.apu_run.proofs.frame_step.wave_output.Tie as tie
+use Rattle.apu_run.proofs.levels.wave_output.Statement.{statement}
+use Rattle.apu_run.proofs.levels.wave_output.Tie as tie
 
 returns : tie.Need-returns
 returns c =
