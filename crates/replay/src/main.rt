@@ -1,8 +1,10 @@
 // Plays logs whose answers are known, and compares: a line for each family, and the total. Standard input is a row of cases: a head, which `expected` reads,
 // the log, and then for kind 1 the output's bytes, for kind 2 a digest of them in eight; kind 0 names the family that follows, in place of a log.
+// A log that is not refused is played twice: by `play_log`, and on the unit itself, call by call, by `play_plainly`.
 // The first family has the answers of `host/make-answers`, from the rules; the others have the original's, by `host/record`.
 mod compare;
 mod expected;
+mod plain;
 
 use compare::digest_is;
 use compare::fill;
@@ -15,6 +17,8 @@ use expected::case_of;
 use expected::written;
 use log_player::log::play_log;
 use log_scan::answer::LogAnswer;
+use plain::NOWHERE;
+use plain::play_plainly;
 
 // Logs, bytes and differing logs of the family so far and of those before it; whether there is more to read.
 struct Tally {
@@ -130,12 +134,32 @@ fn answer_of(log: &[u8], length: usize, room: usize, out: &mut [u8]) -> LogAnswe
     LogAnswer::TooLong
 }
 
-// Plays the log and compares everything that it answers.
+// How many bytes the log makes on the unit itself, in an output of so many bytes.
+fn plain_length(log: &[u8], length: usize, room: usize, out: &mut [u8]) -> usize {
+    if length <= log.len() {
+        if room <= out.len() {
+            return play_plainly(&log[..length], &mut out[..room]);
+        }
+    }
+    NOWHERE
+}
+
+// Whether a log that is not refused makes the bytes of the case on the unit itself too.
+fn plainly_same(case: Case, log: &[u8], want: &[u8], out: &mut [u8]) -> bool {
+    if case.refused == 0 {
+        fill(out);
+        let made = plain_length(log, case.length, case.room, out);
+        return (made == written(case)) & output_is(case, want, out);
+    }
+    true
+}
+
+// Plays the log both ways and compares everything that it answers.
 fn replayed(case: Case, log: &[u8], want: &[u8], out: &mut [u8]) -> bool {
     fill(out);
     let answer = answer_of(log, case.length, case.room, out);
-    let answered = answer_is(case, answer);
-    answered & output_is(case, want, out)
+    let answered = answer_is(case, answer) & output_is(case, want, out);
+    answered & plainly_same(case, log, want, out)
 }
 
 fn read_answer(t: Tally, case: Case, log: &[u8], want: &mut [u8], out: &mut [u8]) -> Tally {
