@@ -10,8 +10,8 @@
  *   0        the log was played                                       bytes written to the front of out
  *            an image was made                                        bytes written to the front of image: 164
  *   3        the log is longer than 65,536 bytes                      0
- *   4        it is under 2 bytes, its byte 0 (the version) is not 1,  0
- *            or its byte 1 (the start) is above 3
+ *   4        it is under 2 bytes, its byte 0 (the version) is         0
+ *            neither 1 nor 2, or its byte 1 (the start) is above 3
  *   5        a record is wrong or cut short                           place in the log of the first such record's
  *                                                                     first length byte
  *   6        out is shorter than the bytes needed                     the bytes needed
@@ -24,6 +24,11 @@
  * WHAT IS LENT is memory as a pointer and a length, for the time of the call. log and the image played from are read and never
  * written; out, after, counts and the image made are written, and nothing else is. Bytes past those written stay as they were. No
  * memory is allocated and nothing is kept, so any number of threads may play at once. Every call ends.
+ *
+ * A LOG is of version 1 or 2. A clock record of version 1 is 03, speed, divider, count, and every call has that divider. One of
+ * version 2 is 03, speed, divider, phase (0 to 63), count, and in call i from 0 the divider is the byte plus (phase + i)/64, rounded
+ * down, modulo 256. All other records are the same in both. A clock record of the other version's length, or with a phase above 63,
+ * is wrong (5).
  *
  * The bytes that an output needs: play into no output (out_length 0) and take the number of refusal 6; the answer 0 means none.
  * That costs by the log's records, not by its clock calls. No log needs more than 264,491,123 bytes.
@@ -88,8 +93,9 @@ uint64_t make_image(uint8_t start, uint8_t *image, size_t image_length);
 
 /* Plays a log's records on the unit of an image, which goes on where it was kept. What they make goes to the front of out, and the
  * image of the unit after them to the front of after. Refusals 7, then 3 to 6, then 8. The log's start byte is judged and not used:
- * the unit is the image's, so a log that says DMG plays on the image's own model. The bytes needed (6) go by the image too: it says
- * how far the next frame is. To keep the new image at the place of the old one, copy it there after the call: the two may not overlap. */
+ * the unit is the image's, so a log that says DMG plays on the image's own model. The version is the log's own, so logs of both may
+ * follow each other. The bytes needed (6) go by the image too: it says how far the next frame is. To keep the new image at the place
+ * of the old one, copy it there after the call: the two may not overlap. */
 uint64_t play_from_image(const uint8_t *image, size_t image_length, const uint8_t *log, size_t log_length,
     uint8_t *out, size_t out_length, uint8_t *after, size_t after_length);
 

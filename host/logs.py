@@ -1,4 +1,4 @@
-"""The records of an access log, as bytes: document 01, "The access log"."""
+"""The records of an access log, as bytes: document 01, "The access log", and document 02, request 2026-02."""
 
 
 def record(*body):
@@ -14,8 +14,9 @@ def read(*addrs):
     return b"".join(record(2, addr >> 8, addr & 255) for addr in addrs)
 
 
-def clocks(count, divider=0, double=0):
-    return record(3, double, divider, count >> 8, count & 255)
+def clocks(count, divider=0, double=0, phase=None):
+    """With a phase a record of version 2."""
+    return record(3, double, divider, *([] if phase is None else [phase]), count >> 8, count & 255)
 
 
 def falls(count, double=0):

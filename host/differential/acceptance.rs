@@ -156,9 +156,9 @@ fn tried(base: &Image, reader: &Reader, seed: u64, keep_going: bool) -> Counts {
 fn bases(reader: &Reader, seed: u64) -> Vec<(String, Image)> {
     let mut all: Vec<(String, Image)> = (0..4).map(|start| (format!("fresh, start {start}"), original::image(&original::make(start)))).collect();
     for (number, family) in [0, 1, 3, 4, 5, 6, 7, 11].into_iter().enumerate() {
-        let (start, records) = crate::log::parse(&generate::make(family, seed, number as u64)).expect("no log of these families is refused");
-        let mut unit = original::make(start);
-        original::play_on(&mut unit, &records, &mut original::Answer::default());
+        let log = crate::log::parse(&generate::make(family, seed, number as u64)).expect("no log of these families is refused");
+        let mut unit = original::make(log.start);
+        original::play_on(&mut unit, &log.records, &mut original::Answer::default());
         all.push((format!("after a log of {}", generate::FAMILIES[family].0), original::image(&unit)));
     }
     let mut random = Random::new(seed, 0, 2);

@@ -1,17 +1,28 @@
 //! A case played by both, and what differs.
 use crate::generate::Random;
 use crate::image::{Image, IMAGE_BYTES};
-use crate::log::{self, Record, Refused};
+use crate::log::{self, Log, Record, Refused};
 use crate::original::{self, Answer};
 use crate::port::{done, filled, refused, Lent, FILL, GUARD};
 use besticoro::{items, Refusal};
 
-/// A log to play: on a fresh unit, or on an image's; and where it is cut into parts that are played through images, the seed of the cuts.
+/// What of a log is compared beside it.
+#[derive(Clone, Copy, Default)]
+pub enum Also {
+    #[default]
+    Nothing,
+    /// The log cut between records, by a seed, into parts that are played through images; each of the log's version, or mixed, of one and the other by turns.
+    Parts { seed: u64, mixed: bool },
+    /// Each clock record cut in two, at every place.
+    CutInTwo,
+}
+
+/// A log to play, on a fresh unit or on an image's.
 #[derive(Clone, Default)]
 pub struct Case {
     pub log: Vec<u8>,
     pub image: Option<Image>,
-    pub cuts: Option<u64>,
+    pub also: Also,
 }
 
 /// What was compared.
@@ -197,37 +208,120 @@ fn cut(records: usize, seed: u64) -> Vec<usize> {
     ends
 }
 
-/// The records in parts, each a log of its own, through images: outputs joined, counts added, and every image. Gives how many images were compared.
-fn compare_parts(records: &[Record], seed: u64, image: &Image, answer: &Answer, lent: &mut Lent) -> Result<u64, String> {
-    let (mut unit, mut now, mut from) = (original::take_up(image), *image, 0);
-    let (mut joined, mut counts, ends) = (Vec::new(), [0; 3], cut(records.len(), seed));
-    for &to in &ends {
-        let (log, mut theirs) = (log::bytes((seed % 4) as u8, &records[from..to]), Answer::default());
-        original::play_on(&mut unit, &records[from..to], &mut theirs);
+/// The records of a version: in version 2 with any phases, in version 1 without them.
+fn in_version(version: u8, records: &[Record], random: &mut Random) -> Vec<Record> {
+    let phase = |random: &mut Random| (version == 2).then(|| random.below(64) as u8);
+    let other = |record: &Record| match *record {
+        Record::Clock { double, divider, count, .. } => Record::Clock { double, divider, phase: phase(random), count },
+        other => other,
+    };
+    records.iter().map(other).collect()
+}
+
+/// The parts of a log, each a log of its own.
+fn parts_of(log: &Log, seed: u64, mixed: bool) -> Vec<Log> {
+    let (mut random, mut from) = (Random::new(seed, 0, 1), 0);
+    let part = |(number, to): (usize, usize)| {
+        let records = &log.records[std::mem::replace(&mut from, to)..to];
+        let version = if mixed { 1 + ((seed >> 8) as u8).wrapping_add(number as u8) % 2 } else { log.version };
+        let records = if mixed { in_version(version, records, &mut random) } else { records.to_vec() };
+        Log { version, start: (seed % 4) as u8, records }
+    };
+    cut(log.records.len(), seed).into_iter().enumerate().map(part).collect()
+}
+
+/// What the original makes of logs one after the other, on the unit of an image.
+fn played_in_a_row(parts: &[Log], image: &Image) -> Answer {
+    let (mut unit, mut answer) = (original::take_up(image), Answer::default());
+    parts.iter().for_each(|part| original::play_on(&mut unit, &part.records, &mut answer));
+    answer
+}
+
+/// Logs through images: outputs joined, counts added, and every image. Gives how many images were compared.
+fn compare_parts(parts: &[Log], image: &Image, answer: &Answer, lent: &mut Lent) -> Result<u64, String> {
+    let (mut unit, mut now) = (original::take_up(image), *image);
+    let (mut joined, mut counts) = (Vec::new(), [0; 3]);
+    for part in parts {
+        let mut theirs = Answer::default();
+        original::play_on(&mut unit, &part.records, &mut theirs);
         let needed = theirs.bytes.len();
-        expect("answer to a part, and untouched", lent.play(&now, &log, needed, IMAGE_BYTES, true), done(needed))?;
+        expect("answer to a part, and untouched", lent.play(&now, &part.with(&part.records), needed, IMAGE_BYTES, true), done(needed))?;
         same_image("the image after a part", lent.image_after(), &original::image(&unit))?;
         joined.extend(&lent.out[..needed]);
         counts = [0, 1, 2].map(|at| counts[at] + lent.counts[at]);
         now.copy_from_slice(lent.image_after());
-        from = to;
     }
     same_items(&joined, &answer.bytes)?;
     expect("counts of all parts", counts, [answer.frames, answer.clocks, answer.records])?;
-    Ok(ends.len() as u64)
+    Ok(parts.len() as u64)
+}
+
+/// Another log that must come to the same on the same image, but for the number of its records.
+fn compare_twin(twin: &[u8], image: &Image, answer: &Answer, after: &Image, lent: &mut Lent) -> Result<(), String> {
+    let needed = answer.bytes.len();
+    expect("answer to a twin, and untouched", lent.play(image, twin, needed, IMAGE_BYTES, true), done(needed))?;
+    expect("counts of a twin", &lent.counts[..2], &[answer.frames, answer.clocks])?;
+    same_items(&lent.out[..needed], &answer.bytes)?;
+    same_image("the image after a twin", lent.image_after(), after)
+}
+
+/// A clock record's calls up to one, and those from it on: what the divider has come to is the second record's byte and phase.
+fn cut_in_two(record: Record, k: u16) -> [Record; 2] {
+    let Record::Clock { double, divider, phase, count } = record else { panic!("{record} is no clock record") };
+    let come_to = phase.map(|phase| u16::from(phase) + k);
+    let byte = divider.wrapping_add((come_to.unwrap_or(0) / 64) as u8);
+    [(divider, phase, k), (byte, come_to.map(|at| (at % 64) as u8), count - k)].map(|(divider, phase, count)| Record::Clock { double, divider, phase, count })
+}
+
+/// The log with each of its clock records cut in two, at every place.
+fn compare_cut_in_two(log: &Log, image: &Image, answer: &Answer, after: &Image, lent: &mut Lent) -> Result<u64, String> {
+    let mut twins = 0;
+    for (at, &record) in log.records.iter().enumerate() {
+        let Record::Clock { count, .. } = record else { continue };
+        for k in 1..count {
+            let records = [&log.records[..at], &cut_in_two(record, k), &log.records[at + 1..]].concat();
+            compare_twin(&log.with(&records), image, answer, after, lent).map_err(|what| format!("{record}, cut at {k}: {what}"))?;
+            twins += 1;
+        }
+    }
+    Ok(twins)
+}
+
+/// A log of version 2 in whose records no divider moves comes to what it is in version 1, without the phases.
+fn compare_standing(log: &Log, image: &Image, answer: &Answer, after: &Image, lent: &mut Lent) -> Result<u64, String> {
+    let stands = |record: &Record| !matches!(*record, Record::Clock { phase: Some(phase), count, .. } if u16::from(phase) + count > 64);
+    if log.version == 1 || !log.records.iter().all(stands) {
+        return Ok(0);
+    }
+    let records = in_version(1, &log.records, &mut Random::new(0, 0, 0));
+    compare_twin(&log::bytes(1, log.start, &records), image, answer, after, lent).map_err(|what| format!("in version 1: {what}"))?;
+    Ok(1)
+}
+
+/// What else there is to compare of a case; gives how many images were compared.
+fn compare_also(also: Also, log: &Log, image: &Image, answer: &Answer, after: &Image, lent: &mut Lent) -> Result<u64, String> {
+    match also {
+        Also::Nothing => Ok(0),
+        Also::Parts { seed, mixed: false } => compare_parts(&parts_of(log, seed, false), image, answer, lent),
+        Also::Parts { seed, mixed: true } => {
+            let parts = parts_of(log, seed, true);
+            compare_parts(&parts, image, &played_in_a_row(&parts, image), lent)
+        }
+        Also::CutInTwo => compare_cut_in_two(log, image, answer, after, lent),
+    }
 }
 
 /// Both sides of one case. One turn in four adds outputs and places of other lengths.
 pub fn compare(case: &Case, turn: u64, lent: &mut Lent) -> Result<Sums, String> {
     let image = first_image(case, turn, lent)?;
-    let (start, records) = match log::parse(&case.log) {
+    let log = match log::parse(&case.log) {
         Err(refused) => return compare_refused(case, refused, turn, &image, lent),
         Ok(parsed) => parsed,
     };
-    let mut unit = case.image.map_or_else(|| original::make(start), |image| original::take_up(&image));
+    let mut unit = case.image.map_or_else(|| original::make(log.start), |image| original::take_up(&image));
     same_image("what the original loads and saves", &image, &original::image(&unit))?;
     let mut answer = Answer::default();
-    original::play_on(&mut unit, &records, &mut answer);
+    original::play_on(&mut unit, &log.records, &mut answer);
     let (after, edges) = (original::image(&unit), turn % 4 == 0);
     if case.image.is_none() {
         compare_fresh(&case.log, &answer, edges, &mut lent.out)?;
@@ -236,8 +330,9 @@ pub fn compare(case: &Case, turn: u64, lent: &mut Lent) -> Result<Sums, String> 
     if edges {
         compare_edges(case, &image, &answer, &after, turn, lent)?;
     }
-    let parts = case.cuts.map_or(Ok(0), |seed| compare_parts(&records, seed, &image, &answer, lent))?;
-    Ok(Sums { logs: 1, refused: 0, records: answer.records, clocks: answer.clocks, frames: answer.frames, bytes: answer.bytes.len() as u64, images: 2 + parts })
+    let standing = compare_standing(&log, &image, &answer, &after, lent)?;
+    let images = 2 + standing + compare_also(case.also, &log, &image, &answer, &after, lent)?;
+    Ok(Sums { logs: 1, refused: 0, records: answer.records, clocks: answer.clocks, frames: answer.frames, bytes: answer.bytes.len() as u64, images })
 }
 
 /// A case whose log is as small as it can be cut down to while it still differs.
@@ -246,7 +341,7 @@ pub fn shrink(case: &Case) -> Case {
     let with = |log: &[u8]| Case { log: log.to_vec(), ..case.clone() };
     // a difference may show at some turns alone
     let mut differs = |log: &[u8]| (0..20).any(|turn| compare(&with(log), turn, &mut lent).is_err());
-    let Ok((start, mut records)) = log::parse(&case.log) else {
+    let Ok(mut log) = log::parse(&case.log) else {
         let mut log = case.log.clone();
         while log.len() > 1 && differs(&log[..log.len() - 1]) {
             log.pop();
@@ -254,25 +349,25 @@ pub fn shrink(case: &Case) -> Case {
         return with(&log);
     };
     loop {
-        let before = records.clone();
-        drop_records(start, &mut records, &mut differs);
-        simplify(start, &mut records, &mut differs);
-        if records == before {
-            return with(&log::bytes(start, &records));
+        let before = log.records.clone();
+        drop_records(&mut log, &mut differs);
+        simplify(&mut log, &mut differs);
+        if log.records == before {
+            return with(&log.with(&log.records));
         }
     }
 }
 
 /// Leaves out rows of records, ever shorter ones, as long as the log still differs.
-fn drop_records(start: u8, records: &mut Vec<Record>, differs: &mut impl FnMut(&[u8]) -> bool) {
-    let mut step = records.len();
+fn drop_records(log: &mut Log, differs: &mut impl FnMut(&[u8]) -> bool) {
+    let mut step = log.records.len();
     while step > 0 {
         let mut at = 0;
-        while at < records.len() {
-            let mut fewer = records.clone();
-            fewer.drain(at..(at + step).min(records.len()));
-            if differs(&log::bytes(start, &fewer)) {
-                *records = fewer;
+        while at < log.records.len() {
+            let mut fewer = log.records.clone();
+            fewer.drain(at..(at + step).min(log.records.len()));
+            if differs(&log.with(&fewer)) {
+                log.records = fewer;
             } else {
                 at += step;
             }
@@ -281,24 +376,29 @@ fn drop_records(start: u8, records: &mut Vec<Record>, differs: &mut impl FnMut(&
     }
 }
 
-/// Tries fewer calls, normal speed, divider 0 and the value 0 in each record.
-fn simplify(start: u8, records: &mut [Record], differs: &mut impl FnMut(&[u8]) -> bool) {
-    for at in 0..records.len() {
-        let plainer: Vec<Record> = match records[at] {
-            Record::Clock { double, divider, count } => [(false, 0, 1), (false, divider, 1), (double, 0, count), (false, divider, count), (double, divider, count / 2), (double, divider, count - 1)]
-                .into_iter()
-                .filter(|&(_, _, count)| count > 0)
-                .map(|(double, divider, count)| Record::Clock { double, divider, count })
-                .collect(),
+/// The same calls made plainer, in several ways: fewer of them, normal speed, divider and phase 0.
+fn plainer_clocks(double: bool, divider: u8, phase: Option<u8>, count: u16) -> Vec<Record> {
+    let zero = phase.map(|_| 0);
+    let less = [(false, 0, zero, 1), (false, divider, phase, 1), (double, 0, zero, count), (double, divider, zero, count), (double, 0, phase, count)];
+    let fewer = [(false, divider, phase, count), (double, divider, phase, count / 2), (double, divider, phase, count - 1)];
+    let all = less.into_iter().chain(fewer).filter(|&(.., count)| count > 0);
+    all.map(|(double, divider, phase, count)| Record::Clock { double, divider, phase, count }).collect()
+}
+
+/// Tries plainer clock records, and the value 0 or fewer bits of it in each write.
+fn simplify(log: &mut Log, differs: &mut impl FnMut(&[u8]) -> bool) {
+    for at in 0..log.records.len() {
+        let plainer: Vec<Record> = match log.records[at] {
+            Record::Clock { double, divider, phase, count } => plainer_clocks(double, divider, phase, count),
             Record::Write { addr, value } => [0, value & 0x80, value & 0xF0, value & 0xC7].map(|value| Record::Write { addr, value }).to_vec(),
             _ => Vec::new(),
         };
         for record in plainer {
-            let kept = std::mem::replace(&mut records[at], record);
-            if kept == record || differs(&log::bytes(start, records)) {
-                continue;
+            let kept = std::mem::replace(&mut log.records[at], record);
+            if kept != record && differs(&log.with(&log.records)) {
+                break;
             }
-            records[at] = kept;
+            log.records[at] = kept;
         }
     }
 }

@@ -1,4 +1,4 @@
-//! Days of sound through images: a chain of logs on each model, the port from image to image, the original in one go beside it. See ./days.
+//! Days of sound through images: a chain of logs of both versions on each model, the port from image to image, the original in one go beside it. See ./days.
 use crate::generate::{self, Random};
 use crate::image::{Image, IMAGE_BYTES};
 use crate::original::{self, Answer};
@@ -98,7 +98,7 @@ impl Chain {
 
     /// One link: a log played by both; outputs, digests, counts and the state after it must be equal.
     fn link(&mut self, log: &[u8]) -> Result<(), String> {
-        let (_, records) = log::parse(log).map_err(|refused| format!("the log is refused: {refused:?}"))?;
+        let records = log::parse(log).map_err(|refused| format!("the log is refused: {refused:?}"))?.records;
         self.answer.bytes.clear();
         (self.answer.frames, self.answer.clocks, self.answer.records) = (0, 0, 0);
         original::play_on(&mut self.unit, &records, &mut self.answer);
@@ -152,7 +152,9 @@ fn play(start: u8, seed: u64, clocks: u64, shown: &AtomicU64, stop: &AtomicBool)
     };
     while chain.clocks() < clocks && !stop.load(Relaxed) {
         let number = chain.sums.links;
-        let log = generate::link(Random::new(seed, 64 + usize::from(start), number), MOST.min(2 * (clocks - chain.clocks()) + 40_000));
+        // one link in two is of version 2
+        let version = 1 + (number % 2) as u8;
+        let log = generate::link(version, Random::new(seed, 64 + usize::from(start), number), MOST.min(2 * (clocks - chain.clocks()) + 40_000));
         if let Err(wrong) = chain.link(&log) {
             chain.sums.wrong = Some(format!("start {start}, link {number}: {wrong}"));
             stop.store(true, Relaxed);

@@ -9,8 +9,8 @@ mod original;
 mod port;
 mod record;
 
-use compare::{Case, Sums};
-use generate::{BODY_LOGS, FAMILIES, FROM_IMAGES, REGISTER_LOGS, SHORT_LOGS};
+use compare::{Also, Case, Sums};
+use generate::{BODY_LOGS, BODY_LOGS_2, CASES_2, FAMILIES, FAMILIES_2, FROM_IMAGES, PHASE_LOGS, REGISTER_LOGS, SHORT_LOGS};
 use std::io::{IsTerminal, Write};
 use std::sync::atomic::{AtomicBool, AtomicU64, Ordering::Relaxed};
 use std::sync::Mutex;
@@ -49,6 +49,15 @@ fn families(options: &Options) -> Vec<Family> {
     all.push(on_fresh_units("every register and byte", REGISTER_LOGS, generate::register_log));
     all.push(on_fresh_units("every body of one record", BODY_LOGS, generate::body_log));
     all.push(on_fresh_units("every log to 3 bytes", SHORT_LOGS, generate::short_log));
+    for (number, (name, share)) in FAMILIES_2.into_iter().enumerate() {
+        all.push(on_fresh_units(name, many(share), move |index| generate::make_2(number, seed, index)));
+    }
+    for (number, (name, share)) in CASES_2.into_iter().enumerate() {
+        let reader = image::Reader::new();
+        all.push(Family { name, logs: many(share), make: Box::new(move |index| generate::case_2(&reader, number, seed, index)) });
+    }
+    all.push(on_fresh_units("version 2, every byte and phase", PHASE_LOGS, generate::phase_log));
+    all.push(on_fresh_units("version 2, every body of one record", BODY_LOGS_2, generate::body_log_2));
     all
 }
 
@@ -160,14 +169,16 @@ fn report(first: &Difference) {
         println!("  on the image {}", image.map(|byte| format!("{byte:02X}")).concat());
     }
     match log::parse(&small.log) {
-        Ok((start, records)) => {
-            println!("  start {start}");
-            records.iter().for_each(|record| println!("  {record}"));
+        Ok(log) => {
+            println!("  version {}, start {}", log.version, log.start);
+            log.records.iter().for_each(|record| println!("  {record}"));
         }
-        Err(refused) => println!("  {:02X?}, which document 01 refuses with {} {}", small.log, refused.0, refused.1),
+        Err(refused) => println!("  {:02X?}, which documents 01 and 02 refuse with {} {}", small.log, refused.0, refused.1),
     }
-    if small.cuts.is_some() {
-        println!("  in parts through images");
+    match small.also {
+        Also::Parts { mixed: false, .. } => println!("  in parts through images"),
+        Also::Parts { mixed: true, .. } => println!("  in parts of both versions through images"),
+        _ => {}
     }
     println!("{what}");
 }
@@ -212,7 +223,7 @@ fn read_image(file: &str) -> image::Image {
 /// An option that is a task of its own: its status.
 fn task(word: &str, mut value: impl FnMut() -> String, options: &Options) -> i32 {
     let written = match word {
-        "--log" => return one_log(Case { log: read(&value()), image: options.image, cuts: None }),
+        "--log" => return one_log(Case { log: read(&value()), image: options.image, also: Also::Nothing }),
         "--acceptance" => return acceptance::run(options.seed, options.keep_going),
         "--days" => return days::run(real(value()), options.seed),
         "--record" => record::record(value().as_ref(), value().as_ref(), options.seed),
@@ -247,10 +258,11 @@ fn main() {
     let families = families(&options);
     let run = Mutex::new(Run { sums: vec![Sums::default(); families.len()], differing: vec![0; families.len()], first: None });
     let began = Instant::now();
+    let random = FAMILIES.len() + FROM_IMAGES.len() + FAMILIES_2.len() + CASES_2.len();
+    let share = options.minutes.map(|minutes| Duration::from_secs_f64(minutes * 60.0 / random as f64));
     for (number, family) in families.iter().enumerate() {
-        let random = FAMILIES.len() + FROM_IMAGES.len();
-        let share = options.minutes.map(|minutes| Duration::from_secs_f64(minutes * 60.0 / random as f64));
-        let until = share.filter(|_| number < random).map(|share| Instant::now() + share);
+        // what is whole is played whole
+        let until = share.filter(|_| family.logs == u64::MAX).map(|share| Instant::now() + share);
         run_family(family, number, &options, until, &run);
         if !options.keep_going && run.lock().expect("no thread panicked").first.is_some() {
             break;

@@ -1,6 +1,6 @@
 //! The original's answer to a log: its own sound unit, unchanged, driven by the records; and its state as an image.
 use crate::image::Image;
-use crate::log::{Record, Refused};
+use crate::log::{divider_at, Record, Refused};
 use oracle::{apu::Apu, GameBoyConfig, Savable};
 
 /// What playing comes to.
@@ -67,9 +67,9 @@ pub fn play_on(unit: &mut Apu, records: &[Record], answer: &mut Answer) {
                 let byte = unit.read_register(addr);
                 answer.bytes.extend([0x52, byte]);
             }
-            Record::Clock { double, divider, count } => {
-                for _ in 0..count {
-                    unit.clock(double, divider);
+            Record::Clock { double, divider, phase, count } => {
+                for i in 0..count {
+                    unit.clock(double, divider_at(divider, phase, i));
                 }
                 answer.clocks += u64::from(count);
                 take_frames(unit, answer);
@@ -87,14 +87,14 @@ pub fn play_records(start: u8, records: &[Record]) -> Answer {
 
 /// The answer to a log's bytes on the unit of an image that is taken.
 pub fn play_from(image: &Image, log: &[u8]) -> Result<Answer, Refused> {
-    let (_, records) = crate::log::parse(log)?;
+    let log = crate::log::parse(log)?;
     let mut answer = Answer::default();
-    play_on(&mut take_up(image), &records, &mut answer);
+    play_on(&mut take_up(image), &log.records, &mut answer);
     Ok(answer)
 }
 
 /// The answer to a log's bytes where there is room enough.
 pub fn play(log: &[u8]) -> Result<Answer, Refused> {
-    let (start, records) = crate::log::parse(log)?;
-    Ok(play_records(start, &records))
+    let log = crate::log::parse(log)?;
+    Ok(play_records(log.start, &log.records))
 }

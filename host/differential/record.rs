@@ -76,15 +76,44 @@ pub fn record(file: &Path, folder: &Path, seed: u64) -> std::io::Result<()> {
     for index in (0..generate::BODY_LOGS).filter(|index| index % 4096 == 0x0F40 || index % 65536 == 0xFF3F || index % 65536 == 0xFF40 || (133500..133512).contains(index)) {
         put(&mut out, &generate::body_log(index))?;
     }
+    record_2(&mut out, seed)?;
     out.flush()
+}
+
+/// The same of version 2, behind all that was recorded before it. What the sequencer does shows in longer logs.
+fn record_2(out: &mut impl Write, seed: u64) -> std::io::Result<()> {
+    for (number, (family, _)) in generate::FAMILIES_2.iter().enumerate() {
+        name(out, family)?;
+        let long = *family == "version 2, sequencer";
+        let logs = (0..).map(|index| generate::make_2(number, seed, index)).filter(|log| long || small(log, 8_000));
+        for log in logs.take(if long { 6 } else { 18 }) {
+            put(out, &shorten(log, 36_000))?;
+        }
+    }
+    name(out, "version 2, every byte and phase")?;
+    // by a step that comes to every count with both speeds, half-clocks and bits
+    for index in (0..generate::PHASE_LOGS).step_by(generate::PHASE_LOGS as usize / 64 + 29) {
+        put(out, &generate::phase_log(index))?;
+    }
+    name(out, "version 2, every body of one record")?;
+    let lengths = (0..9).map(|length| 131072 + 9 * 3 + length);
+    let phases = (0..3).flat_map(|speed| [0, 62, 63, 64, 255].map(|phase| 133376 + 256 * speed + phase));
+    let counts = (0..4).flat_map(|phase| [0, 1, 255, 256, 257].map(|count| 198912 + 512 * phase + count));
+    for index in lengths.chain(phases).chain(counts) {
+        put(out, &generate::body_log_2(index))?;
+    }
+    Ok(())
 }
 
 /// The first logs of every family, so many of each and none longer than a program prints in a moment, as files of a folder.
 pub fn sample(folder: &Path, seed: u64, many: u64) -> std::io::Result<()> {
-    for (number, (family, _)) in generate::FAMILIES.iter().enumerate() {
-        for index in 0..many {
-            let log = shorten(generate::make(number, seed, index), 36_000);
-            std::fs::write(folder.join(format!("{}_{index}.log", family.replace(' ', "_"))), log)?;
+    let write = |family: &str, index: u64, log: Vec<u8>| std::fs::write(folder.join(format!("{}_{index}.log", family.replace(' ', "_"))), shorten(log, 36_000));
+    for index in 0..many {
+        for (number, (family, _)) in generate::FAMILIES.iter().enumerate() {
+            write(family, index, generate::make(number, seed, index))?;
+        }
+        for (number, (family, _)) in generate::FAMILIES_2.iter().enumerate() {
+            write(&family.replace(',', ""), index, generate::make_2(number, seed, index))?;
         }
     }
     Ok(())
@@ -94,12 +123,12 @@ pub fn sample(folder: &Path, seed: u64, many: u64) -> std::io::Result<()> {
 /// N.later, with what it makes and the state after it, N.later_bytes and N.later_image.
 pub fn residue(folder: &Path, seed: u64, many: u64) -> std::io::Result<()> {
     let number = generate::FAMILIES.iter().position(|(family, _)| *family == "faint residue").expect("a family of that name");
-    let later = [Record::Pcm, Record::Clock { double: false, divider: 0, count: 9000 }, Record::Read { addr: 0xFF26 }];
+    let later = [Record::Pcm, Record::Clock { double: false, divider: 0, phase: None, count: 9000 }, Record::Read { addr: 0xFF26 }];
     for index in 0..many {
         let log = generate::make(number, seed, index);
-        let (start, records) = crate::log::parse(&log).expect("no log of this family is refused");
-        let (mut unit, mut first, mut second) = (original::make(start), Answer::default(), Answer::default());
-        original::play_on(&mut unit, &records, &mut first);
+        let parsed = crate::log::parse(&log).expect("no log of this family is refused");
+        let (mut unit, mut first, mut second) = (original::make(parsed.start), Answer::default(), Answer::default());
+        original::play_on(&mut unit, &parsed.records, &mut first);
         let image = original::image(&unit);
         original::play_on(&mut unit, &later, &mut second);
         let after = original::image(&unit);
@@ -107,7 +136,7 @@ pub fn residue(folder: &Path, seed: u64, many: u64) -> std::io::Result<()> {
             ("log", &log),
             ("bytes", &first.bytes),
             ("image", &image),
-            ("later", &crate::log::bytes(start, &later)),
+            ("later", &parsed.with(&later)),
             ("later_bytes", &second.bytes),
             ("later_image", &after),
         ];
@@ -120,9 +149,9 @@ pub fn residue(folder: &Path, seed: u64, many: u64) -> std::io::Result<()> {
 
 /// A log without the records past so many clocks or 1,500 frames.
 fn shorten(log: Vec<u8>, clocks: u64) -> Vec<u8> {
-    let Ok((start, mut records)) = crate::log::parse(&log) else { return log };
-    while original::play_records(start, &records).clocks > clocks.min(36_000) {
-        records.pop();
+    let Ok(mut parsed) = crate::log::parse(&log) else { return log };
+    while original::play_records(parsed.start, &parsed.records).clocks > clocks.min(36_000) {
+        parsed.records.pop();
     }
-    crate::log::bytes(start, &records)
+    parsed.with(&parsed.records)
 }

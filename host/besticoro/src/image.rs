@@ -50,7 +50,7 @@ impl Image {
     }
 
     /// Plays a log's records on this unit into the front of `out`: what they made, and the unit after them. The log's start byte is judged and not used: the
-    /// model is the image's.
+    /// model is the image's. The version is the log's: a chain may have logs of both.
     pub fn render<'a>(&self, log: &[u8], out: &'a mut [u8]) -> Result<(Rendering<'a>, Image), Refusal> {
         let mut after = [0; IMAGE_BYTES];
         let rendering = render_from(&self.0, log, out, &mut after)?;
@@ -110,6 +110,18 @@ mod tests {
         other_models[IMAGE_BYTES - 1] = 0;
         let wrong = Image::from_bytes(&other_models).expect_err("the model stands twice");
         assert_eq!(wrong.to_string(), "the image is not one that is taken: its version, its length or a field is wrong");
+    }
+
+    #[test]
+    fn a_chain_of_both_versions() {
+        // power on and pulse 2 with a length of 1; 1,024 calls that set the divider's bit; one with which it falls, FF26 read before and after
+        let mut first = vec![1, 1, 0, 4, 1, 0xFF, 0x26, 0x80, 0, 4, 1, 0xFF, 0x16, 0x3F, 0, 4, 1, 0xFF, 0x17, 0xF0, 0, 4, 1, 0xFF, 0x19, 0xC0];
+        first.extend([0, 5, 3, 0, 0x10, 4, 0]);
+        let second = [2, 1, 0, 3, 2, 0xFF, 0x26, 0, 6, 3, 0, 0x1F, 0x3F, 0, 2, 0, 3, 2, 0xFF, 0x26];
+        let (_, kept) = Image::fresh(1).and_then(|image| image.render_to_vec(&first)).expect("a right log of version 1");
+        let (made, _) = kept.render_to_vec(&second).expect("a right log of version 2");
+        let reads: Vec<u8> = made.items().filter_map(|item| if let crate::Item::Read(byte) = item { Some(byte) } else { None }).collect();
+        assert_eq!(reads, [0xF2, 0xF0]);
     }
 
     #[test]

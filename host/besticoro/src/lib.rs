@@ -11,6 +11,10 @@
 //!     assert_eq!(frame.sample(besticoro::Channel::All, besticoro::Side::Left), 0.0);
 //! }
 //!
+//! // the same in version 2: the clock record has a phase after its divider, which goes up by 1 every 64 calls
+//! let running = [2, 1, 0, 4, 1, 0xFF, 0x26, 0x80, 0, 6, 3, 0, 0, 0, 0, 48, 0, 3, 2, 0xFF, 0x26];
+//! assert_eq!(besticoro::render_to_vec(&running)?.bytes(), rendering.bytes());
+//!
 //! // a wrong one, and what is said of it
 //! let wrong = besticoro::render_to_vec(&[1, 1, 0, 5, 3, 0, 0, 0, 0]).unwrap_err();
 //! assert_eq!(wrong.to_string(), "byte 7: the record's count is 0 or above 16,384");

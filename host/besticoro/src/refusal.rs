@@ -27,12 +27,15 @@ pub enum Refusal {
 pub enum BadStart {
     /// There are not two.
     TooShort,
+    /// Neither 1 nor 2.
     Version,
+    /// Above 3.
     Start,
 }
 
-/// What is wrong with a record, in the order in which it is tried.
+/// What is wrong with a record, in the order in which it is tried. A later version of logs may bring more.
 #[derive(Clone, Copy, Debug, PartialEq, Eq)]
+#[non_exhaustive]
 pub enum Fault {
     /// One length byte, and the log ends. Place: the record's start.
     LengthCut,
@@ -42,12 +45,14 @@ pub enum Fault {
     Empty,
     /// A kind that there is not. Place: the kind byte.
     Kind,
-    /// Not the kind's length. Place: the record's start.
+    /// Not the kind's length in the log's version. Place: the record's start.
     Length,
     /// Outside FF10..FF3F. Place: its high byte.
     Address,
     /// Neither 0 nor 1. Place: the speed byte.
     Speed,
+    /// Above 63, in version 2. Place: the phase byte.
+    Phase,
     /// 0 or above 16,384. Place: its high byte.
     Count,
 }
@@ -56,7 +61,7 @@ impl fmt::Display for BadStart {
     fn fmt(&self, f: &mut fmt::Formatter) -> fmt::Result {
         f.write_str(match self {
             BadStart::TooShort => "a log has two bytes or more, version and start, and this one has not",
-            BadStart::Version => "byte 0: the log's version is not 1",
+            BadStart::Version => "byte 0: the log's version is neither 1 nor 2",
             BadStart::Start => "byte 1: the log's start byte is above 3",
         })
     }
@@ -69,9 +74,10 @@ impl fmt::Display for Fault {
             Fault::BodyCut => "the log ends before the record's length is reached",
             Fault::Empty => "the record's length is 0",
             Fault::Kind => "the record's kind is none of 1, 2, 3 and 4",
-            Fault::Length => "the record's length is not that of its kind: 4 for kind 1, 3 for kind 2, 5 for kind 3, 1 for kind 4",
+            Fault::Length => "the record's length is not that of its kind: 4 for kind 1, 3 for kind 2, 5 for kind 3 (6 in version 2), 1 for kind 4",
             Fault::Address => "the record's address is outside FF10 to FF3F",
             Fault::Speed => "the record's speed is neither 0 nor 1",
+            Fault::Phase => "the record's phase is above 63",
             Fault::Count => "the record's count is 0 or above 16,384",
         })
     }
@@ -114,7 +120,7 @@ pub(crate) fn judge(answer: u64, log: &[u8]) -> Result<usize, Refusal> {
 fn bad_start(log: &[u8]) -> Option<BadStart> {
     match *log {
         [] | [_] => Some(BadStart::TooShort),
-        [version, ..] if version != 1 => Some(BadStart::Version),
+        [version, ..] if !(1..=2).contains(&version) => Some(BadStart::Version),
         [_, start, ..] if start > 3 => Some(BadStart::Start),
         _ => None,
     }
@@ -129,13 +135,15 @@ fn fault_at(log: &[u8], record: usize) -> Option<(usize, Fault)> {
     };
     let body = &log[record + 2..];
     let Some(body) = body.get(..usize::from(u16::from_be_bytes([high, low]))) else { return Some((log.len(), Fault::BodyCut)) };
-    body_fault(body).map(|(offset, fault)| (record + offset, fault))
+    body_fault(log[0], body).map(|(offset, fault)| (record + offset, fault))
 }
 
-// The fault of a whole body, and how far from the record's first length byte it is.
-fn body_fault(body: &[u8]) -> Option<(usize, Fault)> {
+// The fault of a whole body in a log of a version, and how far from the record's first length byte it is.
+fn body_fault(version: u8, body: &[u8]) -> Option<(usize, Fault)> {
     let Some(&kind) = body.first() else { return Some((0, Fault::Empty)) };
-    let Some(&length) = [4, 3, 5, 1].get(usize::from(kind).wrapping_sub(1)) else { return Some((2, Fault::Kind)) };
+    // in version 2 a phase stands between divider and count
+    let count = if version == 2 { 4 } else { 3 };
+    let Some(&length) = [4, 3, count + 2, 1].get(usize::from(kind).wrapping_sub(1)) else { return Some((2, Fault::Kind)) };
     if body.len() != length {
         return Some((0, Fault::Length));
     }
@@ -143,7 +151,8 @@ fn body_fault(body: &[u8]) -> Option<(usize, Fault)> {
     match kind {
         1 | 2 if !(0xFF10..=0xFF3F).contains(&word(1)) => Some((3, Fault::Address)),
         3 if body[1] > 1 => Some((3, Fault::Speed)),
-        3 if !(1..=16_384).contains(&word(3)) => Some((5, Fault::Count)),
+        3 if version == 2 && body[3] > 63 => Some((5, Fault::Phase)),
+        3 if !(1..=16_384).contains(&word(count)) => Some((2 + count, Fault::Count)),
         _ => None,
     }
 }
@@ -178,25 +187,54 @@ mod tests {
     }
 
     #[test]
+    fn each_fault_of_version_2() {
+        assert_eq!(fault(&[2, 1, 0, 5, 3, 0, 0, 0, 1]), (2, 2, Fault::Length));
+        assert_eq!(fault(&[2, 1, 0, 7, 3, 0, 0, 0, 0, 1, 0]), (2, 2, Fault::Length));
+        assert_eq!(fault(&[2, 1, 0, 6, 3, 2, 0, 64, 0, 0]), (2, 5, Fault::Speed));
+        assert_eq!(fault(&[2, 1, 0, 6, 3, 1, 0, 64, 0, 0]), (2, 7, Fault::Phase));
+        assert_eq!(fault(&[2, 1, 0, 6, 3, 0, 0, 255, 0, 1]), (2, 7, Fault::Phase));
+        assert_eq!(fault(&[2, 1, 0, 6, 3, 0, 0, 63, 0, 0]), (2, 8, Fault::Count));
+        assert_eq!(fault(&[2, 1, 0, 1, 4, 0, 6, 3, 1, 0, 0, 0x40, 1]), (5, 11, Fault::Count));
+        assert_eq!(fault(&[2, 1, 0, 3, 2, 0xFF, 0x40]), (2, 5, Fault::Address));
+        assert_eq!(fault(&[2, 1, 0, 6, 3, 0, 0, 63, 0]), (2, 9, Fault::BodyCut));
+    }
+
+    #[test]
+    fn the_divider_runs_in_version_2() {
+        // power on, pulse 2 with a length of 1, so many calls from divider 00 and phase 3F, a read of FF26: with call 1,986 the sequencer ends the sound
+        let read = |calls: u16| {
+            let [high, low] = calls.to_be_bytes();
+            let mut log = vec![2, 1, 0, 4, 1, 0xFF, 0x26, 0x80, 0, 4, 1, 0xFF, 0x16, 0x3F, 0, 4, 1, 0xFF, 0x17, 0xF0, 0, 4, 1, 0xFF, 0x19, 0xC0];
+            log.extend([0, 6, 3, 0, 0, 0x3F, high, low, 0, 3, 2, 0xFF, 0x26]);
+            crate::render_to_vec(&log).expect("a right log").bytes().last().copied()
+        };
+        assert_eq!((read(1985), read(1986)), (Some(0xF2), Some(0xF0)));
+    }
+
+    #[test]
     fn each_refusal_in_words() {
         let said = |log: &[u8]| bytes_needed(log).unwrap_err().to_string();
         assert_eq!(said(&vec![1; 65_537]), "the log is longer than 65,536 bytes");
         assert_eq!(said(&[1]), BadStart::TooShort.to_string());
-        assert_eq!(said(&[2, 1]), "byte 0: the log's version is not 1");
+        assert_eq!(said(&[3, 1]), "byte 0: the log's version is neither 1 nor 2");
+        assert_eq!(said(&[0, 1]), BadStart::Version.to_string());
         assert_eq!(said(&[1, 4]), "byte 1: the log's start byte is above 3");
         assert_eq!(said(&[1, 1, 0, 5, 3, 0, 0, 0, 0]), "byte 7: the record's count is 0 or above 16,384");
+        assert_eq!(said(&[2, 1, 0, 6, 3, 0, 0, 64, 0, 1]), "byte 7: the record's phase is above 63");
         let log = [1, 1, 0, 3, 2, 0xFF, 0x26];
         assert_eq!(render(&log, &mut [0]).unwrap_err().to_string(), "the output is shorter than the 2 bytes needed");
         assert_eq!(bytes_needed(&log), Ok(2));
         assert_eq!(bytes_needed(&[1, 1]), Ok(0));
+        assert_eq!(bytes_needed(&[2, 1]), Ok(0));
     }
 
     #[test]
     fn numbers_of_another_library() {
-        let good = [1, 1];
-        for (refusal, number) in [(1, 0), (4, 0), (5, 2), (5, 900), (9, 3)] {
-            assert_eq!(super::judge(refusal << 48 | number, &good), Err(Refusal::Unknown { refusal, number }));
+        for good in [[1, 1], [2, 1]] {
+            for (refusal, number) in [(1, 0), (4, 0), (5, 2), (5, 900), (9, 3)] {
+                assert_eq!(super::judge(refusal << 48 | number, &good), Err(Refusal::Unknown { refusal, number }));
+            }
+            assert_eq!(super::judge(0xFFFF << 48, &good), Err(Refusal::BadMemory));
         }
-        assert_eq!(super::judge(0xFFFF << 48, &good), Err(Refusal::BadMemory));
     }
 }
