@@ -2,7 +2,7 @@
 pub mod FrameSteps  -- a frame by what its run's settings give, and a silent one
 pub mod Parts  -- a run by what it moves alone
 pub mod Moves  -- many clocks of what moves
-pub mod Calm  -- how long no channel steps
+pub mod Calm  -- how long no output changes
 pub mod FrameTurns  -- from one frame to the next
 pub mod Rans  -- what a run hands back
 pub mod Running  -- what holds at each turn of the loop over frames

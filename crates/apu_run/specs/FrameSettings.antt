@@ -1,10 +1,10 @@
--- A frame in parts: what a run's settings give to each of its frames, the levels that those and what moves give, which stay while no channel steps, and the
+-- A frame in parts: what a run's settings give to each of its frames, the levels that those and what moves give, which stay while no output changes, and the
 -- frame from both, all arms of each choice worked out. For the code and its proof alone: what a frame is, `frameStepOf` says (and that the parts are it:
 -- `by-frame-settings` of proofs/FrameSteps.antt). Assumes nothing.
 use Prim.Native.Nat.{ℕ, _+_, _-_, _*_, _/_, _%_, _^_, _≤_}
 use mathlib.Core.Bool.{Bool, not, _&&_}
 use mathlib.Core.List.{List}
-use lib.Dec.{eqb, ltb}
+use lib.Dec.{eqb}
 use lib.IntN.{pos}
 use lib.ListN.{getD}
 use lib.Ieee.{Float, binary32, ofInt, add, sub, mul, div}

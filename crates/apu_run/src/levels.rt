@@ -1,4 +1,4 @@
-// What goes into the four converters: it stays as it is while no channel steps, so that most frames need not look at the channels at all.
+// What goes into the four converters: it stays as it is while no output changes, so that most frames need not look at the channels at all.
 ghost use mathlib.Core.Path.{_≡_};
 ghost use Prim.Native.Nat.{_≤_};
 ghost use lib.IntN.{pos};
