@@ -28,11 +28,13 @@ use Rattle.apu_run.specs.FrameStep.{frameStepOf}
 use Rattle.log_items.specs.Items as silent
 use Rattle.apu.specs.declared.Apu.{Apu}
 use Rattle.apu_run.specs.Phases.{settingsOf}
-use Rattle.apu_run.specs.FrameSettings.{loudOf, routeOf, frameSettingsOf, pulseOutput, nibbleAt, waveOutput, noiseOutput, levelsOf, soundOf, frameStepBy}
+use Rattle.apu_run.specs.FrameSettings.{loudOf, routeOf, frameSettingsOf, pulseOutput, nibbleAt, waveOutput, noiseOutput, levelsOf, soundOf}
+use Rattle.apu_run.specs.FrameSettings.{frameStepBy, stoodOf, stoodStill}
 use Rattle.apu_run.specs.Parts.{silentOf}
 use Rattle.apu_run.specs.declared.phases.Phases.{Phases}
 use Rattle.apu_run.specs.declared.phases.Settings.{Settings}
 use Rattle.apu_run.specs.declared.phases.Converters.{Converters}
+use Rattle.apu_run.specs.declared.frame_step.FrameStep.{FrameStep}
 
 -- ---- zeros, computed: 0/8 × (volume+1) / 5 is 0 at every volume, and so is a side that is not selected
 unselected : (sample : Float) (volume : ℕ) → sideOf sample volume false ≡ f0
@@ -85,15 +87,19 @@ module _ (d : Converter) (control selection channel : ℕ) where
       (record { converter = k; sides = record { right = x; left = y } })
   same-sides k a b x y e f = ap₂ (λ (r l : Float). record { converter = k; sides = record { right = r; left = l } }) e f
 
-  by-route : (x output : ℕ) (muted : Bool) → (muted ≡ false → x ≡ output) → sounded x muted ≡ voiced d output muted control selection channel
+  -- and made good, where it is muted, by what its converter was before
+  by-route : (before : Converter) (x output : ℕ) (muted : Bool) → (muted ≡ false → x ≡ output)
+      → _≡_ {A = Voiced}
+      (record { converter = stoodOf muted before (sounded x muted .converter); sides = sounded x muted .sides })
+      (voiced (stoodOf muted before d) output muted control selection channel)
   unfolding soundOf routeOf voiced stepped sidesOf
-  by-route x output true e =
+  by-route before x output true e =
       unfold pick in
-      same-sides d _ _ _ _
+      same-sides before _ _ _ _
       (side-muted (selectedOf selection channel) _ rightVolume (omega arith))
       (side-muted (selectedOf selection (channel + 4)) _ leftVolume (omega arith))
-  by-route x output false e =
-      ap (λ (n : ℕ). sounded n false) (e refl)
+  by-route before x output false e =
+      ap (λ (n : ℕ). record { converter = stoodOf false before (sounded n false .converter); sides = sounded n false .sides }) (e refl)
       ∙ unfold pick in
       same-sides _ _ _ _ _ (side-open (selectedOf selection channel) _ rightVolume) (side-open (selectedOf selection (channel + 4)) _ leftVolume)
 
@@ -154,17 +160,19 @@ unfolding noise.outputOf
 noise-in n t e = other-times _ (n .envelope .«current_volume») (omega arith) ∙ on-pick (n .«channel_enabled») _ _ (on-of (n .«channel_enabled») _ e)
 
 -- ---- the frame
-pub by-frame-settings : (s : Settings) (m : Phases) (k : Converters)
-    → let t = frameSettingsOf s in frameStepBy t (levelsOf t m (s .wave .buffer)) k ≡ frameStepOf s m k
-unfolding frameStepBy frameSettingsOf levelsOf frameStepOf
-by-frame-settings s m k =
+pub by-frame-settings : (s : Settings) (m : Phases) (before k : Converters)
+    → let t = frameSettingsOf s in
+    let f = frameStepBy t (levelsOf t m (s .wave .buffer)) k in
+    _≡_ {A = FrameStep} (record { converters = stoodStill t before (f .converters); mix = f .mix }) (frameStepOf s m (stoodStill t before k))
+unfolding frameStepBy frameSettingsOf levelsOf frameStepOf routeOf
+by-frame-settings s m before k =
     let control : ℕ = s .«channels_control» in
     let selection : ℕ = s .«channels_selection» in
     rw (
-      by-route (k .pulse1) control selection 0 _ _ _ (pulse-in (s .pulse1) (m .pulse1)),
-      by-route (k .pulse2) control selection 1 _ _ _ (pulse-in (s .pulse2) (m .pulse2)),
-      by-route (k .wave) control selection 2 _ _ _ (wave-in (s .wave) (m .wave)),
-      by-route (k .noise) control selection 3 _ _ _ (noise-in (s .noise) (m .noise)),
+      ← by-route (k .pulse1) control selection 0 (before .pulse1) _ _ _ (pulse-in (s .pulse1) (m .pulse1)),
+      ← by-route (k .pulse2) control selection 1 (before .pulse2) _ _ _ (pulse-in (s .pulse2) (m .pulse2)),
+      ← by-route (k .wave) control selection 2 (before .wave) _ _ _ (wave-in (s .wave) (m .wave)),
+      ← by-route (k .noise) control selection 3 (before .noise) _ _ _ (noise-in (s .noise) (m .noise)),
     )
 
 -- ---- a frame while all four are muted: ten times 0, and nothing moves

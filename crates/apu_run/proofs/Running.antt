@@ -1,5 +1,5 @@
 -- What holds at each turn of the run's loop: what is left to do, from where it stands, comes to the whole. Assumes nothing.
-use mathlib.Core.Path.{_≡_, refl, sym, ap, ap₂, _∙_}
+use mathlib.Core.Path.{_≡_, refl, sym, ap, ap₂, subst, _∙_}
 use mathlib.Core.List.{List, [], _++_}
 use Prim.Native.Nat.{ℕ, _+_, _-_, _*_, _^_, _≤_, _<_}
 use mathlib.Core.Bool.{Bool, true, false, _||_}
@@ -33,6 +33,7 @@ use Rattle.channel_noise.specs.declared.noise_channel.NoiseChannel.{NoiseChanne
 use Rattle.channel_noise.specs.declared.phase.NoisePhase.{NoisePhase}
 use Rattle.channel_noise.proofs.Ranges.{noise-output-le}
 use Rattle.channel_noise.proofs.Phases.{with-noise-phase-held}
+use Rattle.frame.specs.declared.converter.Converter.{Converter}
 use Rattle.frame.specs.declared.mixing.Mix.{Mix}
 use Rattle.log_items.specs.Items.{mixItem, Known, frameLength}
 use Rattle.log_items.proofs.Stores.{sets-append}
@@ -41,7 +42,7 @@ use Rattle.apu_run.specs.Working.{ranOf}
 use Rattle.apu_run.specs.Phases.{SettingsHeld, PhasesHeld, ConvertersHeld, settingsOf, phasesOf, convertersOf, phasesClocked}
 use Rattle.apu_run.specs.Parts.{behind}
 use Rattle.apu_run.specs.FrameStep.{frameStepOf}
-use Rattle.apu_run.specs.FrameSettings.{frameSettingsOf, FrameSettingsHeld, levelsOf, frameStepBy, calmOf}
+use Rattle.apu_run.specs.FrameSettings.{frameSettingsOf, FrameSettingsHeld, levelsOf, frameStepBy, stoodOf, stoodStill, calmOf, knownOf}
 use Rattle.apu_run.specs.declared.phases.Phases.{Phases}
 use Rattle.apu_run.specs.declared.phases.Settings.{Settings}
 use Rattle.apu_run.specs.declared.phases.Converters.{Converters}
@@ -128,6 +129,10 @@ whole r = from (r .settings) (r .count) (r .ahead) (r .waiting) (r .phases) (r .
 abbrev levelsAfter : Task → ℕ → Phases → Levels
 levelsAfter r n m = levelsOf (r .frameSettings) (iterate n (phasesClocked (r .settings)) m) (r .settings .wave .buffer)
 
+-- the converters as they are: what the loop has of a muted channel's does not count
+abbrev pub still : Task → Converters → Converters
+still r k = stoodStill (r .frameSettings) (r .converters) k
+
 -- it is known for so many clocks
 abbrev pub Seen : Task → Phases → Levels → ℕ → Type 0
 Seen r m l known = (n : ℕ) → n < known → levelsAfter r n m ≡ l
@@ -137,7 +142,7 @@ pub record Running (r : Task) (s : State) : Type 0 where
   pub held : SettingsHeld (r .settings)
   pub frameSettings : r .frameSettings ≡ frameSettingsOf (r .settings)
   pub phases : PhasesHeld (s .phases)
-  pub converters : ConvertersHeld (s .converters)
+  pub converters : ConvertersHeld (still r (s .converters))
   pub below : s .units < K
   pub next : s .due ≡ awayOf (units (s .units))
   pub few : s .pending + s .left ≤ 32767
@@ -145,13 +150,27 @@ pub record Running (r : Task) (s : State) : Type 0 where
   pub room : r .start + length (whole r .1 .2) ≤ length (r .out)
   pub place : s .at ≡ r .start + length bytes
   pub stored : s .out ≡ sets (r .out) (r .start) bytes
-  pub same : from (r .settings) (s .left) (s .units) (s .pending) (s .phases) (s .converters) bytes ≡ whole r
+  pub same : from (r .settings) (s .left) (s .units) (s .pending) (s .phases) (still r (s .converters)) bytes ≡ whole r
 
 item-long : (m : Mix) → length (mixItem m) ≡ frameLength
 unfolding mixItem
 item-long m = refl
 
 -- ---- at the start
+stood-same : (b : Bool) (d : Converter) → stoodOf b d d ≡ d
+unfolding pick
+stood-same true d = refl
+stood-same false d = refl
+
+still-first : (t : FrameSettings) (k : Converters) → stoodStill t k k ≡ k
+still-first t k =
+    rw (
+      stood-same (t .«pulse1_route» .muted) (k .pulse1),
+      stood-same (t .«pulse2_route» .muted) (k .pulse2),
+      stood-same (t .«wave_route» .muted) (k .wave),
+      stood-same (t .«noise_route» .muted) (k .noise),
+    )
+
 pub running-first : {r : Task} {due : ℕ} {levels : Levels}
     → SettingsHeld (r .settings) → r .frameSettings ≡ frameSettingsOf (r .settings) → PhasesHeld (r .phases) → ConvertersHeld (r .converters)
     → r .ahead < K → due ≡ awayOf (units (r .ahead)) → r .waiting + r .count ≤ 32767 → r .start + length (whole r .1 .2) ≤ length (r .out)
@@ -174,7 +193,7 @@ running-first {r} held te me ke xe de few room =
       held = held;
       frameSettings = te;
       phases = me;
-      converters = ke;
+      converters = subst ConvertersHeld (sym (still-first (r .frameSettings) (r .converters))) ke;
       below = xe;
       next = de;
       few = few;
@@ -182,7 +201,8 @@ running-first {r} held te me ke xe de few room =
       room = room;
       place = sym (add-zero (r .start));
       stored = refl;
-      same = refl;
+      same =
+          ap (λ (k : Converters). from (r .settings) (r .count) (r .ahead) (r .waiting) (r .phases) k []) (still-first (r .frameSettings) (r .converters));
     }
   where
     never : (n : ℕ) → n < 0 → ⊥
@@ -237,19 +257,19 @@ moved-held {r} {s} v =
     rw (v .is) (moves-held (r .settings) (g .held) (s .pending + ahead s) (s .phases) (g .phases))
 
 -- ---- after the last frame: the point that the loop stands at is the whole
-pub running-last : {r : Task} {s : State} {m : Phases} {c : Float} {y : ℕ}
-    → Moved r s m → s .left < s .due → y ≡ s .units + s .left * 2 ^ 48 → c ≡ units y
-    → (record { phases = m; converters = s .converters; counter = c; at = s .at } ≡ pointParts (whole r) (r .start))
+pub running-last : {r : Task} {s : State} {m : Phases} {k : Converters} {c : Float} {y : ℕ}
+    → Moved r s m → s .left < s .due → k ≡ still r (s .converters) → y ≡ s .units + s .left * 2 ^ 48 → c ≡ units y
+    → (record { phases = m; converters = k; counter = c; at = s .at } ≡ pointParts (whole r) (r .start))
     × (s .out ≡ sets (r .out) (r .start) (whole r .1 .2))
-running-last {r} {s} {m} {c} {y} v l ye ce =
+running-last {r} {s} {m} {k} {c} {y} v l ke ye ce =
     let g : Running r s = v .running in
     let moved : m ≡ iterate (s .pending + s .left) (phasesClocked (r .settings)) (s .phases) =
     v .is ∙ ap (λ (n : ℕ). iterate (s .pending + n) (phasesClocked (r .settings)) (s .phases)) (pick-false _ _ _ (lt-leb (s .due) (s .left) l)) in
-    let all : _≡_ {A = Point} (c, (m, s .converters, g .bytes)) (whole r) =
-    ap (λ (x : Float). (x, (m, s .converters, g .bytes))) (ce ∙ ap units ye)
-    ∙ rest (r .settings) (s .phases) (s .converters) (s .units) (g .bytes) (s .left) (s .pending) (g .below) m (rw (g .next) at l) moved
+    let all : _≡_ {A = Point} (c, (m, k, g .bytes)) (whole r) =
+    ap₂ (λ (x : Float) (y : Converters). (x, (m, y, g .bytes))) (ce ∙ ap units ye) ke
+    ∙ rest (r .settings) (s .phases) (still r (s .converters)) (s .units) (g .bytes) (s .left) (s .pending) (g .below) m (rw (g .next) at l) moved
     ∙ g .same in (
-      ap (λ (n : ℕ). record { phases = m; converters = s .converters; counter = c; at = n }) (g .place) ∙ ap (λ (p : Point). pointParts p (r .start)) all,
+      ap (λ (n : ℕ). record { phases = m; converters = k; counter = c; at = n }) (g .place) ∙ ap (λ (p : Point). pointParts p (r .start)) all,
       g .stored ∙ ap (λ (p : Point). sets (r .out) (r .start) (p .1 .2)) all,
     )
 
@@ -259,10 +279,14 @@ pub whole-ran : {r : Task} {s : State} → Running r s → (u : Apu) → r .sett
 whole-ran {r} g u se me ke = rw (se, me, ke) (sym (behind-ran u (r .count) (r .ahead) (r .waiting)))
 
 -- ---- after another frame
+-- with the converters as they are
+abbrev stilled : Task → FrameStep → FrameStep
+stilled r f = record { converters = still r (f .converters); mix = f .mix }
+
 pub record Framed (r : Task) (s : State) (m : Phases) (f : FrameStep) : Type 0 where
   pub moved : Moved r s m
   pub due : s .due ≤ s .left
-  pub is : f ≡ frameStepOf (r .settings) m (s .converters)
+  pub is : stilled r f ≡ frameStepOf (r .settings) m (still r (s .converters))
 
 -- what moves where the frame is due
 abbrev moving : Task → State → Phases
@@ -282,15 +306,26 @@ pub record Looked (r : Task) (s : State) (m : Phases) (pending : ℕ) (l : Level
 pub not-over : (left due : ℕ) → ltb left due ≡ false → due ≤ left
 not-over left due e = ltb-false left due e
 
-pub looked-anew : {r : Task} {s : State} {m m' : Phases} {l l' : Levels} {pending calm known : ℕ} → Moved r s m → ltb (s .left) (s .due) ≡ false
-    → l ≡ levelsOf (r .frameSettings) m (r .settings .wave .buffer) → calm ≡ calmOf (r .settings) (r .frameSettings) m
-    → m' ≡ m → pending ≡ 0 → l' ≡ l → known ≡ calm + 1 → Looked r s m' pending l' known
-looked-anew {r} {s} {m} {m'} {l} {l'} {pending} {calm} {known} v d le ce me pe e ke = rw (me, pe, e, ke) looked
-  where
-    under : (n calm : ℕ) → n < calm + 1 → n ≤ calm
-    under n calm h = omega arith
+module _ {r : Task} {s : State} {m : Phases} (v : Moved r s m) where
+  known-levels : (fast : Bool) (n : ℕ) → n < knownOf fast (r .settings) (r .frameSettings) m
+      → levelsAfter r n m ≡ levelsOf (r .frameSettings) m (r .settings .wave .buffer)
+  unfolding knownOf pick
+  known-levels true n h = absurd (never n h)
+    where
+      never : (n : ℕ) → n < 0 → ⊥
+      never n h = omega arith
+  known-levels false n h =
+      calm-levels (r .settings) (r .frameSettings) m (r .settings .wave .buffer) (moved-held v) n (under n (calmOf (r .settings) (r .frameSettings) m) h)
+    where
+      under : (n calm : ℕ) → n < calm + 1 → n ≤ calm
+      under n calm h = omega arith
 
-    looked : Looked r s m 0 l (calm + 1)
+pub looked-anew : {r : Task} {s : State} {m m' : Phases} {l l' : Levels} {pending k known : ℕ} (fast : Bool) → Moved r s m → ltb (s .left) (s .due) ≡ false
+    → l ≡ levelsOf (r .frameSettings) m (r .settings .wave .buffer) → k ≡ knownOf fast (r .settings) (r .frameSettings) m
+    → m' ≡ m → pending ≡ 0 → l' ≡ l → known ≡ k → Looked r s m' pending l' known
+looked-anew {r} {s} {m} {m'} {l} {l'} {pending} {k} {known} fast v d le ce me pe e ke = rw (me, pe, e, ke) looked
+  where
+    looked : Looked r s m 0 l k
     looked =
         record {
           running = v .running;
@@ -299,7 +334,7 @@ looked-anew {r} {s} {m} {m'} {l} {l'} {pending} {calm} {known} v d le ce me pe e
           is = unfold iterate in v .is;
           few = omega arith;
           levels = le ∙ ap (λ (x : Phases). levelsOf (r .frameSettings) x (r .settings .wave .buffer)) (v .is);
-          seen = λ n h. calm-levels (r .settings) (r .frameSettings) m (r .settings .wave .buffer) (moved-held v) n (rw (← ce) (under n calm h)) ∙ sym le;
+          seen = λ n h. known-levels v fast n (rw ce at h) ∙ sym le;
         }
 
 -- neither over nor unknown
@@ -332,17 +367,26 @@ looked-before {r} {s} {m} {l} {n} {pending} {known} g ne t me pe e ke = rw (me, 
           seen = g .seen;
         }
 
+-- a frame of these levels is the frame
+pub step-is : (r : Task) (s : State) → r .frameSettings ≡ frameSettingsOf (r .settings)
+    → stilled r (frameStepBy (r .frameSettings) (levelsOf (r .frameSettings) (moving r s) (r .settings .wave .buffer)) (s .converters))
+    ≡ frameStepOf (r .settings) (moving r s) (still r (s .converters))
+step-is r s e = go (r .frameSettings) e
+  where
+    go : (t : FrameSettings) → t ≡ frameSettingsOf (r .settings)
+        → (let f = frameStepBy t (levelsOf t (moving r s) (r .settings .wave .buffer)) (s .converters) in
+        _≡_ {A = FrameStep}
+        (record { converters = stoodStill t (r .converters) (f .converters); mix = f .mix })
+        (frameStepOf (r .settings) (moving r s) (stoodStill t (r .converters) (s .converters))))
+    go t e = rw e (by-frame-settings (r .settings) (moving r s) (r .converters) (s .converters))
+
 abbrev pub framed-of : {r : Task} {s : State} {m : Phases} {pending known : ℕ} {l : Levels} {f : FrameStep}
     → Looked r s m pending l known → f ≡ frameStepBy (r .frameSettings) l (s .converters) → Framed r s (moving r s) f
 framed-of {r} {s} {l = l} {f = f} v fe =
     record {
       moved = record { running = v .running; is = refl };
       due = v .due;
-      is =
-          fe
-          ∙ ap (λ (x : Levels). frameStepBy (r .frameSettings) x (s .converters)) (v .levels)
-          ∙ ap (λ (t : FrameSettings). frameStepBy t (levelsOf t (moving r s) (r .settings .wave .buffer)) (s .converters)) (v .running .frameSettings)
-          ∙ by-frame-settings (r .settings) (moving r s) (s .converters);
+      is = ap (stilled r) (fe ∙ ap (λ (x : Levels). frameStepBy (r .frameSettings) x (s .converters)) (v .levels)) ∙ step-is r s (v .running .frameSettings);
     }
 
 module _ {r : Task} {s : State} {m : Phases} {f : FrameStep} (v : Framed r s m f) where
@@ -361,25 +405,27 @@ module _ {r : Task} {s : State} {m : Phases} {f : FrameStep} (v : Framed r s m f
   to-due : ahead s ≡ s .due - 1
   to-due = pick-true _ _ _ (le-leb (s .due) (s .left) (v .due))
 
-  onward : from (r .settings) (s .left - s .due) later 1 m (f .converters) bytes ≡ whole r
+  onward : from (r .settings) (s .left - s .due) later 1 m (still r (f .converters)) bytes ≡ whole r
   onward =
       let moved = v .moved .is ∙ ap (λ (n : ℕ). iterate (s .pending + n) (phasesClocked (r .settings)) (s .phases)) to-due in
-      go (s .due) f (before .next) (v .due) moved (v .is)
+      go (s .due) (stilled r f) (before .next) (v .due) moved (v .is)
     where
       go : (d : ℕ) (t : FrameStep) → d ≡ awayOf (units (s .units)) → d ≤ s .left → m ≡ iterate (s .pending + (d - 1)) (phasesClocked (r .settings)) (s .phases)
-          → t ≡ frameStepOf (r .settings) m (s .converters)
+          → t ≡ frameStepOf (r .settings) m (still r (s .converters))
           → from (r .settings) (s .left - d) (s .units + d * 2 ^ 48 - K) 1 m (t .converters) (before .bytes ++ mixItem (t .mix)) ≡ whole r
       go d t e l h i =
           rw (i, e)
-          (turn (r .settings) (s .phases) (s .converters) (s .units) (before .bytes) (s .left) (s .pending) (before .below) m (rw e at l) (rw e at h)
+          (turn (r .settings) (s .phases) (still r (s .converters)) (s .units) (before .bytes) (s .left) (s .pending) (before .below) m (rw e at l) (rw e at h)
           ∙ before .same)
 
   pub framed-known : Known (f .mix)
-  framed-known = rw (v .is) (frame-step-known (r .settings) m (s .converters) (before .held) (moved-held (v .moved)) (before .converters))
+  framed-known =
+      subst (λ (x : FrameStep). Known (x .mix)) (sym (v .is))
+      (frame-step-known (r .settings) m (still r (s .converters)) (before .held) (moved-held (v .moved)) (before .converters))
 
   pub framed-room : s .at + frameLength ≤ length (s .out)
   framed-room =
-      let last : Point = (units later, (iterate 1 (phasesClocked (r .settings)) m, f .converters, bytes)) in
+      let last : Point = (units later, (iterate 1 (phasesClocked (r .settings)) m, still r (f .converters), bytes)) in
       let under : length bytes ≤ length (whole r .1 .2) = rw (ap (λ (p : Point). length (p .1 .2)) onward) at (grows (r .settings) (s .left - s .due) last) in
       fits (s .at) (r .start) (length (before .bytes)) (length bytes) (length (whole r .1 .2)) (length (r .out)) (length (s .out))
       (before .place) bytes-long under (before .room) (out-long before)
@@ -422,7 +468,9 @@ module _ {r : Task} {s : State} {m : Phases} {pending known : ℕ} {l : Levels} 
           held = g .held;
           frameSettings = g .frameSettings;
           phases = looked .held;
-          converters = rw (v .is) (frame-step-held (r .settings) (moving r s) (s .converters) (g .held) (moved-held (v .moved)) (g .converters));
+          converters =
+              subst (λ (x : FrameStep). ConvertersHeld (x .converters)) (sym (v .is))
+              (frame-step-held (r .settings) (moving r s) (still r (s .converters)) (g .held) (moved-held (v .moved)) (g .converters));
           below = rw (xe, g .next) (after-below (s .units) (g .below));
           next = de;
           few = fewer (s .pending) (s .left) (s .due) pending (due-some g) (looked .due) (rw (to-due v) at (looked .few)) (g .few);
@@ -434,7 +482,7 @@ module _ {r : Task} {s : State} {m : Phases} {pending known : ℕ} {l : Levels} 
               ∙ ap₂ (λ (y : List ℕ) (z : ℕ). sets y z (mixItem (f .mix))) (g .stored) (g .place)
               ∙ sym (sets-append (r .out) (r .start) (g .bytes) (mixItem (f .mix)));
           same =
-              ap₂ (λ (y : ℕ) (p : Phases). iterate (s .left - s .due) (pointClock (r .settings)) (units y, (p, f .converters, bytes v))) xe one-more
+              ap₂ (λ (y : ℕ) (p : Phases). iterate (s .left - s .due) (pointClock (r .settings)) (units y, (p, still r (f .converters), bytes v))) xe one-more
               ∙ onward v;
         }
       where

@@ -91,13 +91,13 @@ levelsOf t m ram =
 abbrev pub noLevels : Levels
 noLevels = record { pulse1 = f0; pulse2 = f0; wave = f0; noise = f0 }
 
--- a level through its converter to both sides
+-- a level through its converter to both sides; the converter goes on though the channel be muted
 unfoldable pub soundOf : Converter → Float → Route → Float → Float → Voiced
 soundOf d level route loudRight loudLeft =
     let out = sub binary32 level (d .capacitor) in
     let part = div binary32 out f8 in
     record {
-      converter = record { capacitor = pick (route .muted) (d .capacitor) (sub binary32 level (mul binary32 out keep)) };
+      converter = record { capacitor = sub binary32 level (mul binary32 out keep) };
       sides =
           record {
             right = pick (route .rightward) (div binary32 (mul binary32 part loudRight) f5) f0;
@@ -114,6 +114,19 @@ frameStepBy t l k =
     record {
       converters = record { pulse1 = p .converter; pulse2 = q .converter; wave = w .converter; noise = n .converter };
       mix = mixed (p .sides) (q .sides) (w .sides) (n .sides);
+    }
+
+-- "A muted one gives 0 and its capacitor stays": what it has after a run, where it was muted from the start and where not
+abbrev pub stoodOf : Bool → Converter → Converter → Converter
+stoodOf muted before after = record { capacitor = pick muted (before .capacitor) (after .capacitor) }
+
+abbrev pub stoodStill : FrameSettings → Converters → Converters → Converters
+stoodStill t before after =
+    record {
+      pulse1 = stoodOf (t .«pulse1_route» .muted) (before .pulse1) (after .pulse1);
+      pulse2 = stoodOf (t .«pulse2_route» .muted) (before .pulse2) (after .pulse2);
+      wave = stoodOf (t .«wave_route» .muted) (before .wave) (after .wave);
+      noise = stoodOf (t .«noise_route» .muted) (before .noise) (after .noise);
     }
 
 -- ---- how long levels stay
@@ -141,3 +154,7 @@ calmOf s t m =
     (pulseCalm (s .pulse1 .«first_trigger») (t .«pulse1_row») (pulse.reloadOf (s .pulse1)) (m .pulse1))
     (pulseCalm (s .pulse2 .«first_trigger») (t .«pulse2_row») (pulse.reloadOf (s .pulse2)) (m .pulse2)))
     (least (m .wave .«frequency_timer» / 2) (noiseCalm (noise.reloadOf (s .noise)) (m .noise)))
+
+-- a look, and the clocks after it in which nothing changes; of a fast run none of it
+unfoldable pub knownOf : Bool → Settings → FrameSettings → Phases → ℕ
+knownOf fast s t m = pick fast 0 (calmOf s t m + 1)

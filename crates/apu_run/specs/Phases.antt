@@ -1,5 +1,6 @@
 -- What the working clocks of the four channels move, and what they leave as it is. Assumes nothing.
-use Prim.Native.Nat.{ℕ}
+use mathlib.Core.Bool.{Bool}
+use Prim.Native.Nat.{ℕ, _/_}
 use lib.Dec.{ltb}
 use lib.Ieee.{Float}
 use Rattle.ground.specs.Pick.{pick}
@@ -83,6 +84,12 @@ tonesAfter s n m =
 -- of two numbers the smaller
 unfoldable pub least : ℕ → ℕ → ℕ
 least a b = pick (ltb a b) a b
+
+-- between two steps of a channel are at least as many clocks as its timer reloads to, of the wave half of it: whether a frame, 23 clocks or 24, is longer
+unfoldable pub fastOf : Settings → Bool
+fastOf s =
+    let tones = least (least (pulse.reloadOf (s .pulse1)) (pulse.reloadOf (s .pulse2))) (wave.reloadOf (s .wave) / 2) in
+    ltb (least tones (noise.reloadOf (s .noise))) 23
 
 -- a working clock of what moves: "With power off, stop", else "Clock pulse 1, pulse 2, wave, noise"
 unfoldable pub phasesClocked : Settings → Phases → Phases

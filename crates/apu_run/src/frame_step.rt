@@ -3,7 +3,7 @@
 // of four sounding channels took 265 instructions in place of 207, and 12 % longer; one of two, 18 % less.)
 ghost use mathlib.Core.Path.{_≡_};
 ghost use Rattle.ground.specs.Pick.{pick};
-ghost use Rattle.apu_run.specs.FrameSettings.{soundOf, frameStepBy};
+ghost use Rattle.apu_run.specs.FrameSettings.{soundOf, frameStepBy, stoodOf, stoodStill};
 use crate::frame_settings::FrameSettings;
 use crate::frame_settings::Route;
 use crate::levels::Levels;
@@ -27,16 +27,15 @@ fn choose(test: bool, one: f32, other: f32) -> f32
     if test { one } else { other }
 }
 
-// A channel's level through its converter to both sides.
+// A channel's level through its converter to both sides. The converter goes on though the channel be muted, when it should stand still: that is made good
+// once, after the run (`stand_still`), since a choice here would be waited for by every next frame.
 fn sound_channel(converter: Converter, level: f32, route: Route, right: f32, left: f32) -> Voiced
     ensures { λ r. ⌜ r ≡ soundOf converter level route right left ⌝ }
 {
-    let capacitor = converter.capacitor;
-    let dac_out = level - capacitor;
-    let drifted = level - dac_out * 0.996;
+    let dac_out = level - converter.capacitor;
     let part = dac_out / 8.0;
     let next = Converter {
-        capacitor: choose(route.muted, capacitor, drifted),
+        capacitor: level - dac_out * 0.996,
     };
     let sides = Sides {
         right: choose(route.rightward, part * right / 5.0, 0.0),
@@ -86,4 +85,29 @@ pub fn step_frame(t: FrameSettings, levels: Levels, k: Converters) -> FrameStep
         noise,
     };
     FrameStep { converters, mix }
+}
+
+// A muted channel's converter as it was before, another's as it is after.
+fn stood(muted: bool, before: Converter, after: Converter) -> Converter
+    ensures { λ r. ⌜ r ≡ stoodOf muted before after ⌝ }
+{
+    Converter {
+        capacitor: choose(muted, before.capacitor, after.capacitor),
+    }
+}
+
+// The converters after a run that began with those before: who is muted stays so through all of it.
+pub fn stand_still(t: FrameSettings, before: Converters, after: Converters) -> Converters
+    ensures { λ r. ⌜ r ≡ stoodStill t before after ⌝ }
+{
+    let pulse1 = stood(t.pulse1_route.muted, before.pulse1, after.pulse1);
+    let pulse2 = stood(t.pulse2_route.muted, before.pulse2, after.pulse2);
+    let wave = stood(t.wave_route.muted, before.wave, after.wave);
+    let noise = stood(t.noise_route.muted, before.noise, after.noise);
+    Converters {
+        pulse1,
+        pulse2,
+        wave,
+        noise,
+    }
 }

@@ -11,13 +11,15 @@ ghost use Rattle.apu.specs.Held.{Held, FloatsHeld};
 ghost use Rattle.apu_run.specs.Working.{ranOf};
 ghost use Rattle.apu_run.specs.Parts.{handedBack, silentOf, behind, partsOf};
 use crate::frame_settings::frame_settings_of;
+use crate::frame_step::stand_still;
 use crate::frame_step::step_frame;
-use crate::levels::calm_of;
+use crate::levels::known_of;
 use crate::levels::levels_of;
 use crate::levels::no_levels;
 use crate::phases::Converters;
 use crate::phases::Phases;
 use crate::phases::converters_of;
+use crate::phases::fast_of;
 use crate::phases::phases_of;
 use crate::phases::settings_of;
 use apu::Apu;
@@ -79,6 +81,7 @@ fn sound_from(
 {
     let settings = settings_of(unit);
     let frame_settings = frame_settings_of(settings);
+    let fast = fast_of(settings);
     let wave = settings.wave;
     let ram = wave.buffer;
     let mut phases = phases_of(unit);
@@ -98,11 +101,12 @@ fn sound_from(
         if over | (known <= clocks) {
             phases = phases.advance(settings, clocks);
             if over {
+                let still = stand_still(frame_settings, converters_of(unit), converters);
                 let counter = counter_of(later(units, left));
-                return hand_back(phases, converters, counter, at);
+                return hand_back(phases, still, counter, at);
             }
             levels = levels_of(frame_settings, phases, &ram);
-            known = calm_of(settings, frame_settings, phases) + 1;
+            known = known_of(fast, settings, frame_settings, phases);
             pending = 0;
         } else {
             pending = clocks;

@@ -7,7 +7,7 @@ ghost use lib.ListN.{length};
 ghost use Rattle.frame.specs.Converter.{inOf};
 ghost use Rattle.apu_run.specs.Phases.{SettingsHeld, PhasesHeld};
 ghost use Rattle.apu_run.specs.FrameSettings.{FrameSettingsHeld, pulseOutput, nibbleAt, waveOutput, noiseOutput, noLevels, levelsOf};
-ghost use Rattle.apu_run.specs.FrameSettings.{calmBy, pulseCalm, noiseCalm, calmOf};
+ghost use Rattle.apu_run.specs.FrameSettings.{calmBy, pulseCalm, noiseCalm, calmOf, knownOf};
 ghost use Rattle.channel_noise.specs.Phase.{NoisePhaseHeld};
 ghost use Rattle.channel_pulse.specs.Phase.{PulsePhaseHeld};
 use crate::frame_settings::FrameSettings;
@@ -107,8 +107,16 @@ pub fn levels_of(t: FrameSettings, m: Phases, ram: &[u8]) -> Levels
     requires { ⌜ length (now ram) ≡ 16 ⌝ }
     ensures { λ r. ⌜ r ≡ levelsOf t m (now (ram .entry)) ⌝ }
 {
-    let output1 = pulse_output(t.pulse1_row, t.pulse1_volume, m.pulse1.sequencer_position);
-    let output2 = pulse_output(t.pulse2_row, t.pulse2_volume, m.pulse2.sequencer_position);
+    let output1 = pulse_output(
+        t.pulse1_row,
+        t.pulse1_volume,
+        m.pulse1.sequencer_position as u32,
+    );
+    let output2 = pulse_output(
+        t.pulse2_row,
+        t.pulse2_volume,
+        m.pulse2.sequencer_position as u32,
+    );
     let output3 = wave_output(t.wave_shift, m.wave.buffer_position, ram);
     let output4 = noise_output(t.noise_volume, m.noise.feedback_shift_register);
     Levels {
@@ -134,7 +142,7 @@ fn pulse_calm(triggered: bool, row: u32, reload: u32, m: PulsePhase) -> u32
     requires { ⌜ reload ≤ 65535 ⌝ }
     ensures { λ r. ⌜ r ≡ pulseCalm triggered row reload m ⌝ }
 {
-    let position = m.sequencer_position;
+    let position = m.sequencer_position as u32;
     let next = pulse_output(row, 1, (position + 1) % 8);
     let now = pulse_output(row, 1, position);
     let clocks = calm(next == now, m.frequency_timer, reload);
@@ -154,7 +162,7 @@ fn noise_calm(reload: u32, m: NoisePhase) -> u32
 }
 
 // How many clocks the levels of all four stay.
-pub fn calm_of(settings: Settings, t: FrameSettings, m: Phases) -> u32
+fn calm_of(settings: Settings, t: FrameSettings, m: Phases) -> u32
     requires { ⌜ SettingsHeld settings ⌝ }
     requires { ⌜ PhasesHeld m ⌝ }
     ensures { λ r. ⌜ r ≡ calmOf settings t m ⌝ }
@@ -178,4 +186,16 @@ pub fn calm_of(settings: Settings, t: FrameSettings, m: Phases) -> u32
     let pulses = smaller(pulse1, pulse2);
     let others = smaller(m.wave.frequency_timer / 2, noise);
     smaller(pulses, others)
+}
+
+// For how many clocks from a look on the levels are known, that of the look among them; of a fast run for none: there to ask costs more than it saves.
+pub fn known_of(fast: bool, settings: Settings, t: FrameSettings, m: Phases) -> u32
+    requires { ⌜ SettingsHeld settings ⌝ }
+    requires { ⌜ PhasesHeld m ⌝ }
+    ensures { λ r. ⌜ r ≡ knownOf fast settings t m ⌝ }
+{
+    if fast {
+        return 0;
+    }
+    calm_of(settings, t, m) + 1
 }

@@ -7,8 +7,8 @@ ghost use Rattle.apu.specs.Held.{Held};
 ghost use Rattle.channel_pulse.specs.Phase.{PulsePhaseHeld};
 ghost use Rattle.channel_wave.specs.Phase.{WavePhaseHeld};
 ghost use Rattle.channel_noise.specs.Phase.{NoisePhaseHeld};
-ghost use Rattle.apu_run.specs.Phases.{SettingsHeld, PhasesHeld, settingsOf, phasesOf, convertersOf, least, tonesAfter, phasesClocked};
-ghost use Rattle.apu_run.specs.Phases.{pulseWith, waveWith, noiseWith, putBack};
+ghost use Rattle.apu_run.specs.Phases.{SettingsHeld, PhasesHeld, settingsOf, phasesOf, convertersOf, least, fastOf, tonesAfter};
+ghost use Rattle.apu_run.specs.Phases.{phasesClocked, pulseWith, waveWith, noiseWith, putBack};
 use apu::Apu;
 use channel_groups::noise_group::NoiseGroup;
 use channel_groups::pulse_group::PulseGroup;
@@ -115,6 +115,23 @@ fn near(reload1: u32, reload2: u32, reload3: u32) -> u32
     ensures { λ r. ⌜ r ≡ least (least reload1 reload2) (reload3 / 2) ⌝ }
 {
     smaller(smaller(reload1, reload2), reload3 / 2)
+}
+
+// Whether a channel may step in every frame, which come 23 clocks apart or more.
+pub fn fast_of(settings: Settings) -> bool
+    requires { ⌜ SettingsHeld settings ⌝ }
+    ensures { λ r. ⌜ r ≡ fastOf settings ⌝ }
+{
+    let first = settings.pulse1;
+    let second = settings.pulse2;
+    let third = settings.wave;
+    let fourth = settings.noise;
+    let tones = near(
+        first.reload() as u32,
+        second.reload() as u32,
+        third.reload() as u32,
+    );
+    smaller(tones, fourth.get_frequency() as u32) < 23
 }
 
 // The pulses and the wave after so many working clocks with power on. Where none steps twice they go without a jump.

@@ -8,7 +8,7 @@ use ground::timer::count_down;
 use ground::timer::count_near;
 
 pub struct PulsePhase {
-    pub sequencer_position: u32,
+    pub sequencer_position: usize,
     pub frequency_timer: u32,
 }
 
@@ -23,7 +23,7 @@ impl PulsePhase {
         if triggered {
             let run = count_down(self.frequency_timer, reload + 1, n);
             return PulsePhase {
-                sequencer_position: (self.sequencer_position + run.steps) % 8,
+                sequencer_position: (self.sequencer_position + run.steps as usize) % 8,
                 frequency_timer: run.timer,
             };
         }
@@ -39,7 +39,7 @@ impl PulsePhase {
     {
         let run = count_near(self.frequency_timer, reload + 1, flag32(triggered, n));
         PulsePhase {
-            sequencer_position: (self.sequencer_position + run.steps) % 8,
+            sequencer_position: (self.sequencer_position + run.steps as usize) % 8,
             frequency_timer: run.timer,
         }
     }

@@ -164,7 +164,7 @@ impl PulseChannel {
         ensures { λ r. ⌜ r ≡ pulsePhaseOf self ⌝ }
     {
         PulsePhase {
-            sequencer_position: self.sequencer_position as u32,
+            sequencer_position: self.sequencer_position,
             frequency_timer: self.frequency_timer as u32,
         }
     }
@@ -175,7 +175,7 @@ impl PulseChannel {
         ensures { λ r. ⌜ r ≡ withPulsePhase self phase ⌝ }
     {
         let mut next = self;
-        next.sequencer_position = phase.sequencer_position as usize;
+        next.sequencer_position = phase.sequencer_position;
         next.frequency_timer = phase.frequency_timer as u16;
         next
     }

@@ -8,9 +8,10 @@ use lib.ListN.{length}
 use lib.Seq.{sets}
 use Rattle.clocks.proofs.Distances.{after-below}
 use Rattle.apu_run.specs.Working.{Take}
+use Rattle.apu_run.specs.FrameSettings.{stoodStill}
 use Rattle.apu_run.specs.Parts.{partsOf}
+use Rattle.apu_run.specs.declared.phases.Converters.{Converters}
 use Rattle.apu_run.proofs.Moves.{settings-held, phases-held, converters-held}
-use Rattle.apu_run.proofs.Calm.{calm-few}
 use Rattle.apu_run.proofs.Rans.{behind-ran}
 use Rattle.apu_run.proofs.Running.{Running, running-first, running-on, running-last, whole-ran, due-some, out-long, frame-settings-held, few-clocks}
 use Rattle.apu_run.proofs.Running.{moved-of, moved-held, looked-anew, looked-before, framed-of, framed-known, framed-room}
@@ -18,7 +19,7 @@ use Rattle.apu_run.proofs.frames.sound_from.Statement.{statement}
 use Rattle.apu_run.proofs.frames.sound_from.Tie as tie
 
 abbrev Inv-loop : tie.InvT-loop
-Inv-loop ahead count waiting out₀ start settings each ram phases₀ converters₀ units₀ due₀ left₀ at₀ pending₀ levels₀ known₀
+Inv-loop unit ahead count waiting out₀ start settings each fast ram phases₀ converters₀ units₀ due₀ left₀ at₀ pending₀ levels₀ known₀
     out phases converters units due left at pending levels known =
     Running
     (record {
@@ -46,18 +47,25 @@ Inv-loop ahead count waiting out₀ start settings each ram phases₀ converters
     })
 
 abbrev μ-loop : tie.MeasureT-loop
-μ-loop ahead count waiting out₀ start settings each ram phases₀ converters₀ units₀ due₀ left₀ at₀ pending₀ levels₀ known₀
+μ-loop unit ahead count waiting out₀ start settings each fast ram phases₀ converters₀ units₀ due₀ left₀ at₀ pending₀ levels₀ known₀
     out phases converters units due left at pending levels known =
     left
 
+fast-of-requires : tie.Need-fast-of-requires Inv-loop μ-loop
+fast-of-requires c κs =
+    let settings-of = c .before .settings-of in
+    let args = c .before .before .before .args in
+    let pre = c .before .before .before .pre in
+    rw (settings-of .ensures) (settings-held (args .unit) (pre .0))
+
 phases-of-requires : tie.Need-phases-of-requires Inv-loop μ-loop
 phases-of-requires c κs =
-    let pre = c .before .before .before .before .before .pre in
+    let pre = c .before .before .before .before .before .before .pre in
     pre .0
 
 until-requires : tie.Need-until-requires Inv-loop μ-loop
 until-requires c κs =
-    let pre = c .before .before .before .before .before .before .before .pre in
+    let pre = c .before .before .before .before .before .before .before .before .pre in
     pre .1 .1 .0
 
 loop-holds : tie.Need-loop-holds Inv-loop μ-loop
@@ -65,20 +73,20 @@ loop-holds c =
     let until = c .before .until in
     let converters-of = c .before .before .converters-of in
     let phases-of = c .before .before .before .phases-of in
-    let frame-settings-of = c .before .before .before .before .before .before .frame-settings-of in
-    let settings-of = c .before .before .before .before .before .before .before .settings-of in
-    let start = c .before .before .before .before .before .before .before .before .before in
-    let u = start .args .unit in
-    let pre = start .pre in
-    let room = rw (ap (λ (t : Take). length (t .bytes)) (behind-ran u (start .args .count) (start .args .ahead) (start .args .waiting))) at (pre .1 .1 .1 .1) in
+    let frame-settings-of = c .before .before .before .before .before .before .before .frame-settings-of in
+    let settings-of = c .before .before .before .before .before .before .before .before .settings-of in
+    let args = c .before .before .before .before .before .before .before .before .before .before .args in
+    let pre = c .before .before .before .before .before .before .before .before .before .before .pre in
+    let u = args .unit in
+    let room = rw (ap (λ (t : Take). length (t .bytes)) (behind-ran u (args .count) (args .ahead) (args .waiting))) at (pre .1 .1 .1 .1) in
     rw (phases-of .ensures, converters-of .ensures, frame-settings-of .ensures, settings-of .ensures)
     (running-first (settings-held u (pre .0)) refl (phases-held u (pre .0)) (converters-held u (pre .1 .0))
     (pre .1 .1 .0) (until .ensures) (pre .1 .1 .1 .0) room)
 
 add-clocks : tie.Need-add-clocks Inv-loop μ-loop
 add-clocks c =
-    let before-frame = c .before-frame in
     let loop = c .before .loop in
+    let before-frame = c .before-frame in
     omega (arith, few-clocks (loop .inv) (before-frame .ensures))
 
 -- ---- the channels looked at anew
@@ -90,8 +98,8 @@ advance-requires c κs =
 
 later-requires : tie.Need-later-requires Inv-loop μ-loop
 later-requires c κs =
-    let if2 = c .if2 in
-    let loop = c .before .before .before .before .loop in
+    let if2 = c .before .before .if2 in
+    let loop = c .before .before .before .before .before .before .loop in
     (loop .inv .below, rw (loop .inv .next) at (ltb-true (loop .left) (loop .due) (if2 .taken)))
 
 counter-of-requires : tie.Need-counter-of-requires Inv-loop μ-loop
@@ -101,25 +109,30 @@ counter-of-requires c κs =
 
 same-length : tie.Need-same-length Inv-loop μ-loop
 same-length c =
-    let loop = c .before .before .before .before .before .before .before .loop in
+    let loop = c .before .before .before .before .before .before .before .before .before .loop in
     out-long (loop .inv)
 
 returns : tie.Need-returns Inv-loop μ-loop
 returns c =
-    let hand-back = c .hand-back in
     let counter-of = c .before .counter-of in
     let later = c .before .before .later in
-    let if2 = c .before .before .before .if2 in
-    let advance = c .before .before .before .before .advance in
-    let before-frame = c .before .before .before .before .before .before .before-frame in
-    let loop = c .before .before .before .before .before .before .before .loop in
-    let converters-of = c .before .before .before .before .before .before .before .before .before .before .converters-of in
+    let stand-still = c .before .before .before .stand-still in
+    let converters-of2 = c .before .before .before .before .converters-of2 in
+    let if2 = c .before .before .before .before .before .if2 in
+    let advance = c .before .before .before .before .before .before .advance in
+    let before-frame = c .before .before .before .before .before .before .before .before .before-frame in
+    let loop = c .before .before .before .before .before .before .before .before .before .loop in
     let back10 = c .before .before .before .before .before .before .before .before .before .before in
-    let phases-of = back10 .before .phases-of in
-    let settings-of = back10 .before .before .before .before .before .settings-of in
-    let a = back10 .before .before .before .before .before .before .before .args in
+    let converters-of = back10 .before .before .converters-of in
+    let phases-of = back10 .before .before .before .phases-of in
+    let frame-settings-of = back10 .before .before .before .before .before .before .before .frame-settings-of in
+    let settings-of = back10 .before .before .before .before .before .before .before .before .settings-of in
+    let a = back10 .before .before .before .before .before .before .before .before .before .before .args in
+    let hand-back = c .hand-back in
     let moved = moved-of (loop .inv) (before-frame .ensures) (advance .ensures) in
-    let last = running-last moved (ltb-true _ _ (if2 .taken)) (later .ensures .0) (counter-of .ensures) in
+    let same = converters-of2 .ensures ∙ sym (converters-of .ensures) in
+    let still = stand-still .ensures ∙ ap (λ (k : Converters). stoodStill (frame-settings-of .result) k (loop .converters)) same in
+    let last = running-last moved (ltb-true _ _ (if2 .taken)) still (later .ensures .0) (counter-of .ensures) in
     let all = whole-ran (loop .inv) (a .unit) (settings-of .ensures) (phases-of .ensures) (converters-of .ensures) in
     (hand-back .ensures ∙ last .0 ∙ ap (λ (t : Take). partsOf t (a .start)) all, last .1 ∙ ap (λ (t : Take). sets (a .out .now) (a .start) (t .bytes)) all)
 
@@ -136,26 +149,13 @@ levels-of-requires c κs =
     let moved = moved-of (loop .inv) (before-frame .ensures) (advance .ensures) in
     (frame-settings-held (loop .inv), (moved-held moved, loop .inv .held .wave .buffer))
 
-calm-of-requires : tie.Need-calm-of-requires Inv-loop μ-loop
-calm-of-requires c κs =
+known-of-requires : tie.Need-known-of-requires Inv-loop μ-loop
+known-of-requires c κs =
     let advance = c .before .before .before .advance in
     let before-frame = c .before .before .before .before .before .before-frame in
     let loop = c .before .before .before .before .before .before .loop in
     let moved = moved-of (loop .inv) (before-frame .ensures) (advance .ensures) in
     (loop .inv .held, moved-held moved)
-
-add-known : tie.Need-add-known Inv-loop μ-loop
-add-known c =
-    let calm-of = c .calm-of in
-    let back10 = c .before .before .before .before .before .before .before .before .before .before in
-    let settings-of = back10 .before .before .before .before .before .settings-of in
-    let frame-settings-of = back10 .before .before .before .before .frame-settings-of in
-    let advance = c .before .before .before .before .advance in
-    let before-frame = c .before .before .before .before .before .before .before-frame in
-    let loop = c .before .before .before .before .before .before .before .loop in
-    let moved = moved-of (loop .inv) (before-frame .ensures) (advance .ensures) in
-    let few = calm-few (settings-of .result) (frame-settings-of .result) (advance .result) (moved-held moved) in
-    omega (arith, calm-of .ensures, few)
 
 -- ---- a frame
 put-mix-requires : tie.Need-put-mix-requires Inv-loop μ-loop
@@ -164,9 +164,11 @@ put-mix-requires c κs =
     let if1 = c .before .before .if1 in
     let before-frame = c .before .before .before .before-frame in
     let loop = c .before .before .before .before .loop in
+    let back10 = c .before .before .before .before .before .before .before .before .before .before in
+    let fast-of = back10 .before .fast-of in
     let looked =
     ⊎-elim
-    (λ w. looked-anew (moved-of (loop .inv) (before-frame .ensures) (w .1 .ensures)) (w .2 .left) (w .4 .ensures) (w .5 .ensures)
+    (λ w. looked-anew (fast-of .result) (moved-of (loop .inv) (before-frame .ensures) (w .1 .ensures)) (w .2 .left) (w .4 .ensures) (w .5 .ensures)
     (w .6) (w .7) (w .8) (w .9))
     (λ w. looked-before (loop .inv) (before-frame .ensures) (w .0 .left) (w .1) (w .2) (w .3) (w .4))
     (if1 .came) in
@@ -180,15 +182,16 @@ add-at c =
     let before-frame = c .before .before .before .before .before .before .before .before-frame in
     let loop = c .before .before .before .before .before .before .before .before .loop in
     let back10 = c .before .before .before .before .before .before .before .before .before .before in
-    let start = back10 .before .before .before .before .before .before .before .before in
+    let fast-of = back10 .before .before .before .before .before .fast-of in
+    let good = back10 .before .before .before .before .before .before .before .before .before .good in
     let looked =
     ⊎-elim
-    (λ w. looked-anew (moved-of (loop .inv) (before-frame .ensures) (w .1 .ensures)) (w .2 .left) (w .4 .ensures) (w .5 .ensures)
+    (λ w. looked-anew (fast-of .result) (moved-of (loop .inv) (before-frame .ensures) (w .1 .ensures)) (w .2 .left) (w .4 .ensures) (w .5 .ensures)
     (w .6) (w .7) (w .8) (w .9))
     (λ w. looked-before (loop .inv) (before-frame .ensures) (w .0 .left) (w .1) (w .2) (w .3) (w .4))
     (if1 .came) in
     let framed = framed-of looked (step-frame .ensures) in
-    omega (arith, framed-room framed, out-long (loop .inv), start .good)
+    omega (arith, framed-room framed, out-long (loop .inv), good)
 
 past-frame-requires : tie.Need-past-frame-requires Inv-loop μ-loop
 past-frame-requires c κs =
@@ -200,9 +203,11 @@ sub-left c =
     let if1 = c .before .before .before .before .before .before .before .if1 in
     let before-frame = c .before .before .before .before .before .before .before .before .before-frame in
     let loop = c .before .before .before .before .before .before .before .before .before .loop in
+    let back10 = c .before .before .before .before .before .before .before .before .before .before in
+    let fast-of = back10 .before .before .before .before .before .before .fast-of in
     let looked =
     ⊎-elim
-    (λ w. looked-anew (moved-of (loop .inv) (before-frame .ensures) (w .1 .ensures)) (w .2 .left) (w .4 .ensures) (w .5 .ensures)
+    (λ w. looked-anew (fast-of .result) (moved-of (loop .inv) (before-frame .ensures) (w .1 .ensures)) (w .2 .left) (w .4 .ensures) (w .5 .ensures)
     (w .6) (w .7) (w .8) (w .9))
     (λ w. looked-before (loop .inv) (before-frame .ensures) (w .0 .left) (w .1) (w .2) (w .3) (w .4))
     (if1 .came) in
@@ -213,9 +218,11 @@ add-pending c =
     let if1 = c .before .before .before .before .before .before .before .before .if1 in
     let before-frame = c .before .before .before .before .before .before .before .before .before .before-frame in
     let loop = c .before .before .before .before .before .before .before .before .before .before .loop in
+    let back10 = c .before .before .before .before .before .before .before .before .before .before in
+    let fast-of = back10 .before .before .before .before .before .before .before .fast-of in
     let looked =
     ⊎-elim
-    (λ w. looked-anew (moved-of (loop .inv) (before-frame .ensures) (w .1 .ensures)) (w .2 .left) (w .4 .ensures) (w .5 .ensures)
+    (λ w. looked-anew (fast-of .result) (moved-of (loop .inv) (before-frame .ensures) (w .1 .ensures)) (w .2 .left) (w .4 .ensures) (w .5 .ensures)
     (w .6) (w .7) (w .8) (w .9))
     (λ w. looked-before (loop .inv) (before-frame .ensures) (w .0 .left) (w .1) (w .2) (w .3) (w .4))
     (if1 .came) in
@@ -230,11 +237,13 @@ until-requires-2 c κs =
 loop-less : tie.Need-loop-less Inv-loop μ-loop
 loop-less c =
     let if1 = c .before .before .before .before .before .before .before .before .before .if1 in
-    let before-frame = c .before .before .before .before .before .before .before .before .before .before .before-frame in
-    let loop = c .before .before .before .before .before .before .before .before .before .before .before .loop in
+    let back10 = c .before .before .before .before .before .before .before .before .before .before in
+    let before-frame = back10 .before-frame in
+    let loop = back10 .before .loop in
+    let fast-of = back10 .before .before .before .before .before .before .before .before .fast-of in
     let looked =
     ⊎-elim
-    (λ w. looked-anew (moved-of (loop .inv) (before-frame .ensures) (w .1 .ensures)) (w .2 .left) (w .4 .ensures) (w .5 .ensures)
+    (λ w. looked-anew (fast-of .result) (moved-of (loop .inv) (before-frame .ensures) (w .1 .ensures)) (w .2 .left) (w .4 .ensures) (w .5 .ensures)
     (w .6) (w .7) (w .8) (w .9))
     (λ w. looked-before (loop .inv) (before-frame .ensures) (w .0 .left) (w .1) (w .2) (w .3) (w .4))
     (if1 .came) in
@@ -242,16 +251,18 @@ loop-less c =
 
 loop-again : tie.Need-loop-again Inv-loop μ-loop
 loop-again c =
-    let until2 = c .until2 in
     let past-frame = c .before .before .past-frame in
     let put-mix = c .before .before .before .before .before .before .put-mix in
     let step-frame = c .before .before .before .before .before .before .before .before .step-frame in
     let if1 = c .before .before .before .before .before .before .before .before .before .if1 in
-    let before-frame = c .before .before .before .before .before .before .before .before .before .before .before-frame in
-    let loop = c .before .before .before .before .before .before .before .before .before .before .before .loop in
+    let back10 = c .before .before .before .before .before .before .before .before .before .before in
+    let before-frame = back10 .before-frame in
+    let loop = back10 .before .loop in
+    let fast-of = back10 .before .before .before .before .before .before .before .before .fast-of in
+    let until2 = c .until2 in
     let looked =
     ⊎-elim
-    (λ w. looked-anew (moved-of (loop .inv) (before-frame .ensures) (w .1 .ensures)) (w .2 .left) (w .4 .ensures) (w .5 .ensures)
+    (λ w. looked-anew (fast-of .result) (moved-of (loop .inv) (before-frame .ensures) (w .1 .ensures)) (w .2 .left) (w .4 .ensures) (w .5 .ensures)
     (w .6) (w .7) (w .8) (w .9))
     (λ w. looked-before (loop .inv) (before-frame .ensures) (w .0 .left) (w .1) (w .2) (w .3) (w .4))
     (if1 .came) in
@@ -265,6 +276,7 @@ sound-from-spec =
     μ-loop
     (λ c κs. search needs)
     (λ c κs. search needs)
+    fast-of-requires
     phases-of-requires
     (λ c κs. search needs)
     until-requires
@@ -273,6 +285,8 @@ sound-from-spec =
     (λ c κs. search needs)
     add-clocks
     advance-requires
+    (λ c κs. search needs)
+    (λ c κs. search needs)
     later-requires
     counter-of-requires
     (λ c κs. search needs)
@@ -280,8 +294,7 @@ sound-from-spec =
     returns
     slice-aggregate-levels-of
     levels-of-requires
-    calm-of-requires
-    add-known
+    known-of-requires
     (λ c κs. search needs)
     put-mix-requires
     add-at

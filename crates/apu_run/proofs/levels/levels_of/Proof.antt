@@ -14,7 +14,7 @@ returns c =
     let output4 = c .before .before .before .before .noise-output in
     let output3 = c .before .before .before .before .before .wave-output in
     let output2 = c .before .before .before .before .before .before .pulse-output2 in
-    let output1 = c .before .before .before .before .before .before .before .pulse-output in
+    let output1 = c .before .before .before .before .before .before .before .before .pulse-output in
     rw (
       level4 .ensures,
       level3 .ensures,
@@ -30,7 +30,9 @@ pub levels-of-spec : {M : Type 1} → statement M
 levels-of-spec =
     tie.close
     (tie.spec
+    (λ c. search needs)
     (λ c κs. search needs)
+    (λ c. search needs)
     (λ c κs. search needs)
     (λ c κs. search needs)
     (λ c κs. search needs)

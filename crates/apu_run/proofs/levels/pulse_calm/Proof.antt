@@ -8,8 +8,8 @@ use Rattle.apu_run.proofs.levels.pulse_calm.Tie as tie
 
 calm-requires : tie.Need-calm-requires
 calm-requires c κs =
-    let start = c .before .before in
-    (omega (arith, start .pre .0 .timer), start .pre .1)
+    let pre = c .before .before .before .pre in
+    (omega (arith, pre .0 .timer), pre .1)
 
 returns : tie.Need-returns
 unfolding pick pulseCalm
@@ -27,4 +27,4 @@ returns-2 c =
     rw (if1 .left)
 
 pub pulse-calm-spec : {M : Type 1} → statement M
-pulse-calm-spec = tie.close (tie.spec (λ c. search needs) (λ c κs. search needs) (λ c κs. search needs) calm-requires returns returns-2)
+pulse-calm-spec = tie.close (tie.spec (λ c. search needs) (λ c. search needs) (λ c κs. search needs) (λ c κs. search needs) calm-requires returns returns-2)

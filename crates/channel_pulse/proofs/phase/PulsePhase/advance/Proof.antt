@@ -14,8 +14,8 @@ count-down-requires : tie.Need-count-down-requires
 count-down-requires c κs =
     search needs
 
-add-t7 : tie.Need-add-t7
-add-t7 c =
+add-position : tie.Need-add-t9
+add-position c =
     let run = c .before .before .count-down in
     let start = c .before .before .before .before in
     omega (arith, run .ensures .1, start .pre .0 .position, start .pre .1 .1)
@@ -39,6 +39,7 @@ advance-spec =
     (tie.spec
     add-count-down
     count-down-requires
-    add-t7
+    (λ c. search needs)
+    add-position
     returns
     returns-2)

@@ -24,4 +24,5 @@ advance-near-spec =
     (λ c κs. search needs)
     (λ c κs. search needs)
     (λ c. search needs)
+    (λ c. search needs)
     returns)

@@ -1,0 +1,50 @@
+-- Each reload and each choice are the definition's, by what the calls ensure. Assumes nothing.
+use borrow.Author.Needs.{needs}
+use Rattle.apu_run.specs.Phases.{fastOf}
+use Rattle.apu_run.proofs.phases.fast_of.Statement.{statement}
+use Rattle.apu_run.proofs.phases.fast_of.Tie as tie
+
+reload-requires : tie.Need-reload-requires
+reload-requires c κs = c .before .before .before .before .pre .pulse1
+
+reload-requires-2 : tie.Need-reload-requires-2
+reload-requires-2 c κs = c .before .before .before .before .before .pre .pulse2
+
+reload-requires-3 : tie.Need-reload-requires-3
+reload-requires-3 c κs = c .before .before .before .before .before .before .pre .wave
+
+get-frequency-requires : tie.Need-get-frequency-requires
+get-frequency-requires c κs = c .before .before .before .before .before .before .before .before .pre .noise
+
+returns : tie.Need-returns
+unfolding fastOf
+returns c =
+    let get-frequency = c .before .get-frequency in
+    let near = c .before .before .near in
+    let reload3 = c .before .before .before .reload3 in
+    let reload2 = c .before .before .before .before .reload2 in
+    let reload = c .before .before .before .before .before .reload in
+    rw (
+      c .smaller .ensures,
+      near .ensures,
+      get-frequency .ensures,
+      reload3 .ensures,
+      reload2 .ensures,
+      reload .ensures,
+    )
+
+pub fast-of-spec : {M : Type 1} → statement M
+fast-of-spec =
+    tie.close
+    (tie.spec
+    reload-requires
+    (λ c. search needs)
+    reload-requires-2
+    (λ c. search needs)
+    reload-requires-3
+    (λ c. search needs)
+    (λ c κs. search needs)
+    get-frequency-requires
+    (λ c. search needs)
+    (λ c κs. search needs)
+    returns)
