@@ -1,6 +1,6 @@
 -- The sequencer, from document 01, "Steps of a clock call". Assumes nothing.
 use Prim.Native.Nat.{ℕ, _/_, _%_}
-use mathlib.Core.Bool.{Bool, not, _&&_, _||_}
+use mathlib.Core.Bool.{Bool, true, not, _&&_, _||_}
 use lib.Dec.{eqb}
 use lib.IntN.{pos}
 use Rattle.ground.specs.Pick.{pick}
@@ -36,6 +36,18 @@ advanced a =
     (pick (eqb next 1 || eqb next 5) (withPosition (lengthsClocked a) (pos next))
     (pick (eqb next 3 || eqb next 7) (withPosition (lengthsClocked (sweepClocked a)) (pos next))
     (withPosition a (pos next))))
+
+-- whether any length counts: "A length clock, if enabled, takes 1 off"
+unfoldable pub countsOf : Apu → Bool
+countsOf a =
+    (a .pulse1 .length .«counter_decrease_enable» || a .pulse2 .length .«counter_decrease_enable»)
+    || (a .wave .length .«counter_decrease_enable» || a .noise .length .«counter_decrease_enable»)
+
+-- "the sequencer position goes up" and that is all: to 2, 4 or 6, or where it is "1, 5 length" and no length counts
+unfoldable pub idlesOf : Apu → Bool
+idlesOf a =
+    let next = nextOf (a .«sequencer_position») in
+    pick (eqb next 2 || (eqb next 4 || eqb next 6)) true ((eqb next 1 || eqb next 5) && not (countsOf a))
 
 -- "Store divider bit .. On a fall from the bit stored before"
 unfoldable pub sequenced : Apu → Bool → ℕ → Apu

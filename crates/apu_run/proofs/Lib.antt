@@ -16,4 +16,5 @@ pub mod Stretches  -- many calls that see one bit
 pub mod Dividers  -- how many calls see one bit
 pub mod Playing  -- what the loops of a player hold on to
 pub mod Turns  -- some calls on a unit that owes working clocks
+pub mod Idles  -- a step of the sequencer that a run need not end for
 pub mod Owing  -- the loop of a record's calls

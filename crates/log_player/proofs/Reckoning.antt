@@ -1,7 +1,7 @@
 -- A turn of `reckon`: calls of the clock record at the place, which see one divider bit, in numbers alone. Assumes nothing.
 use Prim.Native.Nat.{ℕ, _+_, _-_, _≤_, _<_}
 use mathlib.Core.Path.{_≡_, refl, sym, _∙_, ap}
-use mathlib.Core.Bool.{Bool, true, false, not}
+use mathlib.Core.Bool.{Bool, true, false, not, true≢false}
 use mathlib.Core.List.{List}
 use native.Mathlib.Omega.{arith}
 use lib.ListN.{length}
@@ -45,6 +45,7 @@ reckoning {v} {s} {power} {r} b l h e z =
             few = omega arith;
             fewer = omega arith;
             less = omega arith;
+            falls = λ f. absurd (true≢false (sym f ∙ e));
           };
       level = e;
       only = z;
@@ -209,6 +210,7 @@ module _
           few = omega (arith, g .little, working-few, p .owed);
           fewer = rw (p .more) (g .far .fewer);
           less = omega (arith, g .far .less, p .passed .less, working-few, p .owed, p .more);
+          falls = λ e. absurd (true≢false (sym e ∙ p .fell ∙ g .level));
         }
       where
         same : (a : Apu) → a .power ≡ power
@@ -239,6 +241,7 @@ module _
           few = omega (arith, g .little, p .owed);
           fewer = omega (arith, working-few);
           less = omega (arith, g .far .less, p .passed .less, working-few, p .owed);
+          falls = λ _. omega (arith, g .far .less, p .passed .less, working-few, p .owed);
         }
       where
         same : (a : Apu) → a .power ≡ power

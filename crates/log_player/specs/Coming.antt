@@ -2,13 +2,14 @@
 -- no promise to a caller is made in these words. Assumes nothing.
 use Prim.Native.Nat.{ℕ, zero, suc, _+_, _-_, _*_, _≤_, _<_}
 use mathlib.Core.Path.{_≡_}
-use mathlib.Core.Bool.{Bool, true, false}
+use mathlib.Core.Bool.{Bool, true, false, _&&_}
 use mathlib.Core.List.{List, _++_}
+use lib.Dec.{leb}
 use lib.ListN.{length}
 use Rattle.ground.specs.Pick.{pick}
 use Rattle.ground.specs.Iterate.{iterate}
 use Rattle.apu.specs.declared.Apu.{Apu}
-use Rattle.apu_clock.specs.Sequencer.{advanced}
+use Rattle.apu_clock.specs.Sequencer.{advanced, idlesOf}
 use Rattle.apu_run.specs.Working.{Take, workingOn, ranOf}
 use Rattle.apu_run.specs.Calls.{clocksBytes, afterClocks}
 use Rattle.apu_run.specs.Owed.{marked}
@@ -68,7 +69,13 @@ pub record Reckons (v : ℕ) (s : List ℕ) (at call more : ℕ) (power : Bool) 
   pub fewer : r .more ≤ 16383
   -- every clock owed comes from a call that is past, or was owed before
   pub less : ahead s (r .at) (r .call) * 65536 + r .owed + r .more ≤ ahead s at call * 65536 + more
+  -- and a fall passes at least one
+  pub falls : r .fell ≡ true → ahead s (r .at) (r .call) * 65536 + r .owed + r .more + 1 ≤ ahead s at call * 65536 + more
 
 -- nothing is owed: the place is before a record
 abbrev pub Idle : Reckoned → Type 0
 Idle r = (r .call ≡ 0) × ((r .more ≡ 0) × (r .fell ≡ false))
+
+-- the step that is owed moves the position alone, and what is owed before and after it is within `reckon`'s bound
+abbrev pub waitsOf : Reckoned → Apu → Bool
+waitsOf r a = r .fell && leb (r .owed + r .more) 16383 && idlesOf a

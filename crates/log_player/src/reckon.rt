@@ -1,7 +1,11 @@
-// What clock records come to, in numbers: how many working clocks the unit owes, over as many records as follow each other. The unit itself is not needed.
+// What clock records come to, in numbers: how many working clocks the unit owes, over as many records as follow each other. Only `waits` looks
+// at the unit itself.
 ghost use mathlib.Core.Path.{_≡_};
 ghost use Prim.Native.Nat.{_≤_};
-ghost use Rattle.log_player.specs.Coming.{beginsAt, Between, Reckons, Idle};
+ghost use Rattle.apu.specs.Held.{Held};
+ghost use Rattle.log_player.specs.Coming.{beginsAt, Between, Reckons, Idle, waitsOf};
+use apu::Apu;
+use apu_clock::sequencer::idles;
 use apu_clock::sequencer::sequencer_bit;
 use apu_run::calls::meet;
 use apu_run::calls::same_bit;
@@ -84,4 +88,15 @@ pub fn reckon(
             return r;
         }
     }
+}
+
+// Whether what is owed may wait: the bit fell, but that step moves the sequencer's position alone, and not too much is owed. No run reads the position, so
+// the step may come first and all of it be owed after that.
+pub fn waits(r: Reckoned, unit: Apu) -> bool
+    requires { ⌜ r .owed ≤ 32767 ⌝ }
+    requires { ⌜ r .more ≤ 16383 ⌝ }
+    requires { ⌜ Held unit ⌝ }
+    ensures { λ w. ⌜ w ≡ waitsOf r unit ⌝ }
+{
+    r.fell & (r.owed + r.more <= 16383) & idles(unit)
 }
