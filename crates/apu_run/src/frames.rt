@@ -82,8 +82,7 @@ fn sound_from(
     let settings = settings_of(unit);
     let frame_settings = frame_settings_of(settings);
     let fast = fast_of(settings);
-    let wave = settings.wave;
-    let ram = wave.buffer;
+    let ram = settings.wave.buffer;
     let mut phases = phases_of(unit);
     let mut converters = converters_of(unit);
     let mut units = ahead;
@@ -102,8 +101,7 @@ fn sound_from(
             phases = phases.advance(settings, clocks);
             if over {
                 let still = stand_still(frame_settings, converters_of(unit), converters);
-                let counter = counter_of(later(units, left));
-                return hand_back(phases, still, counter, at);
+                return hand_back(phases, still, counter_of(later(units, left)), at);
             }
             levels = levels_of(frame_settings, phases, &ram);
             known = known_of(fast, settings, frame_settings, phases);

@@ -60,12 +60,12 @@ fast-of-requires c κs =
 
 phases-of-requires : tie.Need-phases-of-requires Inv-loop μ-loop
 phases-of-requires c κs =
-    let pre = c .before .before .before .before .before .before .pre in
+    let pre = c .before .before .before .before .before .pre in
     pre .0
 
 until-requires : tie.Need-until-requires Inv-loop μ-loop
 until-requires c κs =
-    let pre = c .before .before .before .before .before .before .before .before .pre in
+    let pre = c .before .before .before .before .before .before .before .pre in
     pre .1 .1 .0
 
 loop-holds : tie.Need-loop-holds Inv-loop μ-loop
@@ -73,10 +73,10 @@ loop-holds c =
     let until = c .before .until in
     let converters-of = c .before .before .converters-of in
     let phases-of = c .before .before .before .phases-of in
-    let frame-settings-of = c .before .before .before .before .before .before .before .frame-settings-of in
-    let settings-of = c .before .before .before .before .before .before .before .before .settings-of in
-    let args = c .before .before .before .before .before .before .before .before .before .before .args in
-    let pre = c .before .before .before .before .before .before .before .before .before .before .pre in
+    let frame-settings-of = c .before .before .before .before .before .before .frame-settings-of in
+    let settings-of = c .before .before .before .before .before .before .before .settings-of in
+    let args = c .before .before .before .before .before .before .before .before .before .args in
+    let pre = c .before .before .before .before .before .before .before .before .before .pre in
     let u = args .unit in
     let room = rw (ap (λ (t : Take). length (t .bytes)) (behind-ran u (args .count) (args .ahead) (args .waiting))) at (pre .1 .1 .1 .1) in
     rw (phases-of .ensures, converters-of .ensures, frame-settings-of .ensures, settings-of .ensures)
@@ -125,9 +125,9 @@ returns c =
     let back10 = c .before .before .before .before .before .before .before .before .before .before in
     let converters-of = back10 .before .before .converters-of in
     let phases-of = back10 .before .before .before .phases-of in
-    let frame-settings-of = back10 .before .before .before .before .before .before .before .frame-settings-of in
-    let settings-of = back10 .before .before .before .before .before .before .before .before .settings-of in
-    let a = back10 .before .before .before .before .before .before .before .before .before .before .args in
+    let frame-settings-of = back10 .before .before .before .before .before .before .frame-settings-of in
+    let settings-of = back10 .before .before .before .before .before .before .before .settings-of in
+    let a = back10 .before .before .before .before .before .before .before .before .before .args in
     let hand-back = c .hand-back in
     let moved = moved-of (loop .inv) (before-frame .ensures) (advance .ensures) in
     let same = converters-of2 .ensures ∙ sym (converters-of .ensures) in
@@ -164,8 +164,7 @@ put-mix-requires c κs =
     let if1 = c .before .before .if1 in
     let before-frame = c .before .before .before .before-frame in
     let loop = c .before .before .before .before .loop in
-    let back10 = c .before .before .before .before .before .before .before .before .before .before in
-    let fast-of = back10 .before .fast-of in
+    let fast-of = c .before .before .before .before .before .before .before .before .before .before .fast-of in
     let looked =
     ⊎-elim
     (λ w. looked-anew (fast-of .result) (moved-of (loop .inv) (before-frame .ensures) (w .1 .ensures)) (w .2 .left) (w .4 .ensures) (w .5 .ensures)
@@ -182,8 +181,8 @@ add-at c =
     let before-frame = c .before .before .before .before .before .before .before .before-frame in
     let loop = c .before .before .before .before .before .before .before .before .loop in
     let back10 = c .before .before .before .before .before .before .before .before .before .before in
-    let fast-of = back10 .before .before .before .before .before .fast-of in
-    let good = back10 .before .before .before .before .before .before .before .before .before .good in
+    let fast-of = back10 .before .before .before .before .fast-of in
+    let good = back10 .before .before .before .before .before .before .before .before .good in
     let looked =
     ⊎-elim
     (λ w. looked-anew (fast-of .result) (moved-of (loop .inv) (before-frame .ensures) (w .1 .ensures)) (w .2 .left) (w .4 .ensures) (w .5 .ensures)
@@ -204,7 +203,7 @@ sub-left c =
     let before-frame = c .before .before .before .before .before .before .before .before .before-frame in
     let loop = c .before .before .before .before .before .before .before .before .before .loop in
     let back10 = c .before .before .before .before .before .before .before .before .before .before in
-    let fast-of = back10 .before .before .before .before .before .before .fast-of in
+    let fast-of = back10 .before .before .before .before .before .fast-of in
     let looked =
     ⊎-elim
     (λ w. looked-anew (fast-of .result) (moved-of (loop .inv) (before-frame .ensures) (w .1 .ensures)) (w .2 .left) (w .4 .ensures) (w .5 .ensures)
@@ -219,7 +218,7 @@ add-pending c =
     let before-frame = c .before .before .before .before .before .before .before .before .before .before-frame in
     let loop = c .before .before .before .before .before .before .before .before .before .before .loop in
     let back10 = c .before .before .before .before .before .before .before .before .before .before in
-    let fast-of = back10 .before .before .before .before .before .before .before .fast-of in
+    let fast-of = back10 .before .before .before .before .before .before .fast-of in
     let looked =
     ⊎-elim
     (λ w. looked-anew (fast-of .result) (moved-of (loop .inv) (before-frame .ensures) (w .1 .ensures)) (w .2 .left) (w .4 .ensures) (w .5 .ensures)
@@ -240,7 +239,7 @@ loop-less c =
     let back10 = c .before .before .before .before .before .before .before .before .before .before in
     let before-frame = back10 .before-frame in
     let loop = back10 .before .loop in
-    let fast-of = back10 .before .before .before .before .before .before .before .before .fast-of in
+    let fast-of = back10 .before .before .before .before .before .before .before .fast-of in
     let looked =
     ⊎-elim
     (λ w. looked-anew (fast-of .result) (moved-of (loop .inv) (before-frame .ensures) (w .1 .ensures)) (w .2 .left) (w .4 .ensures) (w .5 .ensures)
@@ -258,7 +257,7 @@ loop-again c =
     let back10 = c .before .before .before .before .before .before .before .before .before .before in
     let before-frame = back10 .before-frame in
     let loop = back10 .before .loop in
-    let fast-of = back10 .before .before .before .before .before .before .before .before .fast-of in
+    let fast-of = back10 .before .before .before .before .before .before .before .fast-of in
     let until2 = c .until2 in
     let looked =
     ⊎-elim

@@ -5,16 +5,24 @@ use Rattle.apu_run.proofs.phases.fast_of.Statement.{statement}
 use Rattle.apu_run.proofs.phases.fast_of.Tie as tie
 
 reload-requires : tie.Need-reload-requires
-reload-requires c κs = c .before .before .before .before .pre .pulse1
+reload-requires c κs =
+    let pre = c .before .before .before .before .pre in
+    pre .pulse1
 
 reload-requires-2 : tie.Need-reload-requires-2
-reload-requires-2 c κs = c .before .before .before .before .before .pre .pulse2
+reload-requires-2 c κs =
+    let pre = c .before .before .before .before .before .pre in
+    pre .pulse2
 
 reload-requires-3 : tie.Need-reload-requires-3
-reload-requires-3 c κs = c .before .before .before .before .before .before .pre .wave
+reload-requires-3 c κs =
+    let pre = c .before .before .before .before .before .before .pre in
+    pre .wave
 
 get-frequency-requires : tie.Need-get-frequency-requires
-get-frequency-requires c κs = c .before .before .before .before .before .before .before .before .pre .noise
+get-frequency-requires c κs =
+    let pre = c .before .before .before .before .before .before .before .before .pre in
+    pre .noise
 
 returns : tie.Need-returns
 unfolding fastOf
