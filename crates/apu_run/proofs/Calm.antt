@@ -20,7 +20,6 @@ use Rattle.channel_wave.specs.Phase.{WavePhaseHeld, wavePhaseClocked}
 use Rattle.channel_wave.specs.declared.phase.WavePhase.{WavePhase}
 use Rattle.channel_wave.proofs.Phases.{wave-phase-ran}
 use Rattle.channel_noise.specs.Phase.{NoisePhaseHeld, noisePhaseClocked}
-use Rattle.channel_noise.specs.Noise as noise
 use Rattle.channel_noise.specs.Noise.{steppedRegister, feedbackOf}
 use Rattle.channel_noise.specs.declared.phase.NoisePhase.{NoisePhase}
 use Rattle.channel_noise.proofs.Phases.{noise-phase-ran}
@@ -156,7 +155,7 @@ module _ (s : Settings) (t : FrameSettings) (m : Phases) where
       (pulseCalm (s .pulse2 .«first_trigger») (t .«pulse2_row») (pulse.reloadOf (s .pulse2)) (m .pulse2))
 
   abbrev others : ℕ
-  others = least (m .wave .«frequency_timer» / 2) (noiseCalm (noise.reloadOf (s .noise)) (m .noise))
+  others = least (m .wave .«frequency_timer» / 2) (noiseCalm (s .«noise_reload») (m .noise))
 
   is-calm : calmOf s t m ≡ least pulses others
   unfolding calmOf

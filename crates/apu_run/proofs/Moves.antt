@@ -16,7 +16,6 @@ use Rattle.channel_pulse.proofs.Phases as tones
 use Rattle.channel_wave.specs.Wave as wave
 use Rattle.channel_wave.specs.Phase.{wavePhaseClocked}
 use Rattle.channel_wave.proofs.Phases as swings
-use Rattle.channel_noise.specs.Noise as noise
 use Rattle.channel_noise.specs.Phase.{noisePhaseClocked}
 use Rattle.channel_noise.proofs.Phases as hisses
 use Rattle.apu.specs.Held.{Held, FloatsHeld}
@@ -32,7 +31,7 @@ module _ (s : Settings) where
         pulse1 = iterate n (pulsePhaseClocked (s .pulse1 .«first_trigger») (pulse.reloadOf (s .pulse1))) (m .pulse1);
         pulse2 = iterate n (pulsePhaseClocked (s .pulse2 .«first_trigger») (pulse.reloadOf (s .pulse2))) (m .pulse2);
         wave = iterate n (wavePhaseClocked (wave.reloadOf (s .wave))) (m .wave);
-        noise = iterate n (noisePhaseClocked (s .noise .«step_mode_7_bits») (noise.reloadOf (s .noise))) (m .noise);
+        noise = iterate n (noisePhaseClocked (s .noise .«step_mode_7_bits») (s .«noise_reload»)) (m .noise);
       }
       ≡ iterate n (phasesClocked s) m
   unfolding iterate phasesClocked
@@ -56,7 +55,7 @@ module _ (s : Settings) where
         pulse1 = tones.pulse-phase-held _ _ (m .pulse1) (small (s .pulse1 .frequency)) (k .pulse1);
         pulse2 = tones.pulse-phase-held _ _ (m .pulse2) (small (s .pulse2 .frequency)) (k .pulse2);
         wave = swings.wave-phase-held _ (m .wave) (small (s .wave .frequency)) (k .wave);
-        noise = hisses.noise-phase-held _ _ (m .noise) (hisses.reload-most (s .noise)) (k .noise);
+        noise = hisses.noise-phase-held _ _ (m .noise) (h .reload) (k .noise);
       })
       (λ _. k)
 
@@ -103,7 +102,14 @@ near-of n r1 r2 r3 near e h =
 
 -- the ranges of the unit's own
 pub settings-held : (a : Apu) → Held a → SettingsHeld (settingsOf a)
-settings-held a h = record { pulse1 = h .pulse1 .channel; pulse2 = h .pulse2 .channel; wave = h .wave .channel; noise = h .noise .channel }
+settings-held a h =
+    record {
+      pulse1 = h .pulse1 .channel;
+      pulse2 = h .pulse2 .channel;
+      wave = h .wave .channel;
+      noise = h .noise .channel;
+      reload = hisses.reload-most (a .noise .channel);
+    }
 
 pub phases-held : (a : Apu) → Held a → PhasesHeld (phasesOf a)
 phases-held a h =

@@ -153,7 +153,7 @@ calmOf s t m =
     (least
     (pulseCalm (s .pulse1 .«first_trigger») (t .«pulse1_row») (pulse.reloadOf (s .pulse1)) (m .pulse1))
     (pulseCalm (s .pulse2 .«first_trigger») (t .«pulse2_row») (pulse.reloadOf (s .pulse2)) (m .pulse2)))
-    (least (m .wave .«frequency_timer» / 2) (noiseCalm (noise.reloadOf (s .noise)) (m .noise)))
+    (least (m .wave .«frequency_timer» / 2) (noiseCalm (s .«noise_reload») (m .noise)))
 
 -- a look, and the clocks after it in which nothing changes; of a fast run none of it
 unfoldable pub knownOf : Bool → Settings → FrameSettings → Phases → ℕ

@@ -1,6 +1,6 @@
 -- What the working clocks of the four channels move, and what they leave as it is. Assumes nothing.
 use mathlib.Core.Bool.{Bool}
-use Prim.Native.Nat.{ℕ, _/_}
+use Prim.Native.Nat.{ℕ, _/_, _≤_}
 use lib.Dec.{ltb}
 use lib.Ieee.{Float}
 use Rattle.ground.specs.Pick.{pick}
@@ -37,6 +37,7 @@ settingsOf a =
       «channels_control» = a .«channels_control»;
       «channels_selection» = a .«channels_selection»;
       power = a .power;
+      «noise_reload» = noise.reloadOf (a .noise .channel);
     }
 
 -- what moves with each clock
@@ -59,6 +60,7 @@ pub record SettingsHeld (s : Settings) : Type 0 where
   pub pulse2 : pulse.Held (s .pulse2)
   pub wave : wave.Held (s .wave)
   pub noise : noise.Held (s .noise)
+  pub reload : s .«noise_reload» ≤ 16383
 
 pub record PhasesHeld (m : Phases) : Type 0 where
   pub pulse1 : PulsePhaseHeld (m .pulse1)
@@ -89,7 +91,7 @@ least a b = pick (ltb a b) a b
 unfoldable pub fastOf : Settings → Bool
 fastOf s =
     let tones = least (least (pulse.reloadOf (s .pulse1)) (pulse.reloadOf (s .pulse2))) (wave.reloadOf (s .wave) / 2) in
-    ltb (least tones (noise.reloadOf (s .noise))) 23
+    ltb (least tones (s .«noise_reload»)) 23
 
 -- a working clock of what moves: "With power off, stop", else "Clock pulse 1, pulse 2, wave, noise"
 unfoldable pub phasesClocked : Settings → Phases → Phases
@@ -99,7 +101,7 @@ phasesClocked s m =
       pulse1 = pulsePhaseClocked (s .pulse1 .«first_trigger») (pulse.reloadOf (s .pulse1)) (m .pulse1);
       pulse2 = pulsePhaseClocked (s .pulse2 .«first_trigger») (pulse.reloadOf (s .pulse2)) (m .pulse2);
       wave = wavePhaseClocked (wave.reloadOf (s .wave)) (m .wave);
-      noise = noisePhaseClocked (s .noise .«step_mode_7_bits») (noise.reloadOf (s .noise)) (m .noise);
+      noise = noisePhaseClocked (s .noise .«step_mode_7_bits») (s .«noise_reload») (m .noise);
     })
     m
 

@@ -15,6 +15,7 @@ use crate::phases::put_back;
 use apu::Apu;
 use apu_clock::sequencer::advance;
 use apu_clock::sequencer::sequencer_bit;
+use channel_noise::reloads::reloads;
 use clocks::sample_counter::half_clocks_of;
 use log_records::divider::Divider;
 use log_records::divider::divider_at;
@@ -92,10 +93,11 @@ pub fn settle(p: Play, owed: u32, out: &mut [u8]) -> Play
     ensures { λ r. ⌜ Held (r .apu) × FloatsHeld (r .apu) ⌝ }
 {
     let unit = p.apu;
+    let list = reloads();
     let ran = if silent(unit) {
-        rest(unit, owed, out, p.at)
+        rest(unit, &list, owed, out, p.at)
     } else {
-        sound(unit, owed, out, p.at)
+        sound(unit, &list, owed, out, p.at)
     };
     let apu = put_back(unit, ran.phases, ran.converters, ran.counter);
     Play { apu, at: ran.at }

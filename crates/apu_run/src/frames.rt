@@ -8,6 +8,7 @@ ghost use lib.Seq.{sets};
 ghost use Rattle.ground.specs.Pick.{pick};
 ghost use Rattle.clocks.specs.Calls.{K};
 ghost use Rattle.apu.specs.Held.{Held, FloatsHeld};
+ghost use Rattle.channel_noise.specs.Reloads.{reloadList};
 ghost use Rattle.apu_run.specs.Working.{ranOf};
 ghost use Rattle.apu_run.specs.Parts.{handedBack, silentOf, behind, partsOf};
 use crate::frame_settings::frame_settings_of;
@@ -62,9 +63,11 @@ fn before_frame(due: u32, left: u32) -> u32
     }
 }
 
-// So many working clocks of a unit whose sample counter is ahead, at so many units: its channels have `waiting` clocks to come before them.
+// So many working clocks of a unit whose sample counter is ahead, at so many units: its channels have `waiting` clocks to come before them. `list` is that of
+// the noise reloads.
 fn sound_from(
     unit: Apu,
+    list: &[u16],
     ahead: u64,
     count: u32,
     waiting: u32,
@@ -73,13 +76,14 @@ fn sound_from(
 ) -> Parts
     requires { ⌜ Held unit ⌝ }
     requires { ⌜ FloatsHeld unit ⌝ }
+    requires { ⌜ now list ≡ reloadList ⌝ }
     requires { ⌜ ahead < K ⌝ }
     requires { ⌜ waiting + count ≤ 32767 ⌝ }
     requires { ⌜ start + length (ranOf count (behind unit ahead waiting) .bytes) ≤ length (now out) ⌝ }
     ensures { λ r. ⌜ r ≡ partsOf (ranOf count (behind unit ahead waiting)) start ⌝ }
     ensures { λ _. ⌜ now (out .exit) ≡ sets (now (out .entry)) start (ranOf count (behind unit ahead waiting) .bytes) ⌝ }
 {
-    let settings = settings_of(unit);
+    let settings = settings_of(unit, list);
     let frame_settings = frame_settings_of(settings);
     let fast = fast_of(settings);
     let ram = settings.wave.buffer;
@@ -121,15 +125,24 @@ fn sound_from(
 }
 
 // So many working clocks, none of which moves the sequencer, with their frames' bytes from `start` on.
-pub fn sound(unit: Apu, count: u32, out: &mut [u8], start: usize) -> Parts
+pub fn sound(unit: Apu, list: &[u16], count: u32, out: &mut [u8], start: usize) -> Parts
     requires { ⌜ Held unit ⌝ }
     requires { ⌜ FloatsHeld unit ⌝ }
+    requires { ⌜ now list ≡ reloadList ⌝ }
     requires { ⌜ count ≤ 32767 ⌝ }
     requires { ⌜ start + length (ranOf count unit .bytes) ≤ length (now out) ⌝ }
     ensures { λ r. ⌜ r ≡ partsOf (ranOf count unit) start ⌝ }
     ensures { λ _. ⌜ now (out .exit) ≡ sets (now (out .entry)) start (ranOf count unit .bytes) ⌝ }
 {
-    sound_from(unit, units_of(unit.sample_counter), count, 0, out, start)
+    sound_from(
+        unit,
+        list,
+        units_of(unit.sample_counter),
+        count,
+        0,
+        out,
+        start,
+    )
 }
 
 // Whether all four channels are muted, as with power off.
@@ -145,10 +158,11 @@ pub fn silent(unit: Apu) -> bool
 
 // The same as `sound`, of a unit whose channels are all muted: every frame is silence, and the channels' clocks all wait to the end. (As a function of its own:
 // in one with `sound_from` the loop over frames takes a tenth longer.)
-pub fn rest(unit: Apu, count: u32, out: &mut [u8], start: usize) -> Parts
+pub fn rest(unit: Apu, list: &[u16], count: u32, out: &mut [u8], start: usize) -> Parts
     requires { ⌜ silentOf unit ≡ true ⌝ }
     requires { ⌜ Held unit ⌝ }
     requires { ⌜ FloatsHeld unit ⌝ }
+    requires { ⌜ now list ≡ reloadList ⌝ }
     requires { ⌜ count ≤ 32767 ⌝ }
     requires { ⌜ start + length (ranOf count unit .bytes) ≤ length (now out) ⌝ }
     ensures { λ r. ⌜ r ≡ partsOf (ranOf count unit) start ⌝ }
@@ -167,5 +181,5 @@ pub fn rest(unit: Apu, count: u32, out: &mut [u8], start: usize) -> Parts
         waiting += due;
         due = until(units);
     }
-    sound_from(unit, units, left, waiting, out, at)
+    sound_from(unit, list, units, left, waiting, out, at)
 }

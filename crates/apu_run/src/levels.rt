@@ -169,7 +169,6 @@ fn calm_of(settings: Settings, t: FrameSettings, m: Phases) -> u32
 {
     let first = settings.pulse1;
     let second = settings.pulse2;
-    let fourth = settings.noise;
     let pulse1 = pulse_calm(
         first.first_trigger,
         t.pulse1_row,
@@ -182,7 +181,7 @@ fn calm_of(settings: Settings, t: FrameSettings, m: Phases) -> u32
         second.reload() as u32,
         m.pulse2,
     );
-    let noise = noise_calm(fourth.get_frequency() as u32, m.noise);
+    let noise = noise_calm(settings.noise_reload, m.noise);
     let pulses = smaller(pulse1, pulse2);
     let others = smaller(m.wave.frequency_timer / 2, noise);
     smaller(pulses, others)

@@ -7,6 +7,7 @@ ghost use Rattle.apu.specs.Held.{Held};
 ghost use Rattle.channel_pulse.specs.Phase.{PulsePhaseHeld};
 ghost use Rattle.channel_wave.specs.Phase.{WavePhaseHeld};
 ghost use Rattle.channel_noise.specs.Phase.{NoisePhaseHeld};
+ghost use Rattle.channel_noise.specs.Reloads.{reloadList};
 ghost use Rattle.apu_run.specs.Phases.{SettingsHeld, PhasesHeld, settingsOf, phasesOf, convertersOf, least, fastOf, tonesAfter};
 ghost use Rattle.apu_run.specs.Phases.{phasesClocked, pulseWith, waveWith, noiseWith, putBack};
 use apu::Apu;
@@ -30,6 +31,8 @@ pub struct Settings {
     pub channels_control: u8,
     pub channels_selection: u8,
     pub power: bool,
+    // what the noise timer reloads to, read off the list once a run
+    pub noise_reload: u32,
 }
 
 // What moves with each clock.
@@ -55,13 +58,20 @@ pub struct Converters {
     pub noise: Converter,
 }
 
-pub fn settings_of(unit: Apu) -> Settings
+// `list` is that of the noise reloads, lent: laid out here it would be stored anew in each run.
+pub fn settings_of(unit: Apu, list: &[u16]) -> Settings
+    requires { ⌜ Held unit ⌝ }
+    requires { ⌜ now list ≡ reloadList ⌝ }
     ensures { λ r. ⌜ r ≡ settingsOf unit ⌝ }
 {
     let pulse1 = unit.pulse1.channel;
     let pulse2 = unit.pulse2.channel;
     let wave = unit.wave.channel;
     let noise = unit.noise.channel;
+    let ff22 = noise.read_noise_register();
+    let place = ff22 as usize;
+    let reload = list[place];
+    let noise_reload = reload as u32;
     Settings {
         pulse1,
         pulse2,
@@ -70,6 +80,7 @@ pub fn settings_of(unit: Apu) -> Settings
         channels_control: unit.channels_control,
         channels_selection: unit.channels_selection,
         power: unit.power,
+        noise_reload,
     }
 }
 
@@ -125,13 +136,12 @@ pub fn fast_of(settings: Settings) -> bool
     let first = settings.pulse1;
     let second = settings.pulse2;
     let third = settings.wave;
-    let fourth = settings.noise;
     let tones = near(
         first.reload() as u32,
         second.reload() as u32,
         third.reload() as u32,
     );
-    smaller(tones, fourth.get_frequency() as u32) < 23
+    smaller(tones, settings.noise_reload) < 23
 }
 
 // The pulses and the wave after so many working clocks with power on. Where none steps twice they go without a jump.
@@ -176,7 +186,7 @@ impl Phases {
             let tones = advance_tones(self, settings, n);
             let noise = self.noise;
             let fourth = settings.noise;
-            let phase = noise.advance(fourth.step_mode_7_bits, fourth.get_frequency() as u32, n);
+            let phase = noise.advance(fourth.step_mode_7_bits, settings.noise_reload, n);
             let pulse1 = tones.pulse1;
             let pulse2 = tones.pulse2;
             let wave = tones.wave;

@@ -49,8 +49,16 @@ unfoldable pub divisorOf : ℕ → ℕ
 divisorOf code = pick (eqb code 0) 8 (code * 16)
 
 -- "Noise reload: divisor .. shifted left in 16 bits, then /4; what runs past the sixteenth bit is lost"
+abbrev pub reloadBy : ℕ → ℕ → ℕ
+reloadBy code shift = (divisorOf code * 2 ^ shift) % 65536 / 4
+
+-- a channel's
 unfoldable pub reloadOf : NoiseChannel → ℕ
-reloadOf n = (divisorOf (n .«divisor_code») * 2 ^ n .«shift_clock_frequency») % 65536 / 4
+reloadOf n = reloadBy (n .«divisor_code») (n .«shift_clock_frequency»)
+
+-- an FF22 byte's: code in the lowest three bits, shift in the upper four, bit 3 makes no difference
+unfoldable pub reloadAt : ℕ → ℕ
+reloadAt ff22 = reloadBy (ff22 % 8) (ff22 / 16)
 
 -- "x = bit 0 xor bit 1"
 unfoldable pub feedbackOf : ℕ → ℕ

@@ -1,11 +1,12 @@
 // The noise channel: `NoiseChannel` of noise_channel.rs, with its on/off rules from channel.rs.
 ghost use mathlib.Core.Path.{_≡_};
-ghost use Prim.Native.Nat.{_≤_, _*_, _%_, _^_};
-ghost use Rattle.channel_noise.specs.Noise.{Held, fresh, written, byteOf, dacSet, enveloped, divisorOf, reloadOf, feedbackOf, putBit};
+ghost use Prim.Native.Nat.{_≤_};
+ghost use Rattle.channel_noise.specs.Noise.{Held, fresh, written, byteOf, dacSet, enveloped, reloadOf, feedbackOf, putBit};
 ghost use Rattle.channel_noise.specs.Noise.{steppedRegister, clocked, triggered, outputOf, mutedOf};
 ghost use Rattle.channel_noise.specs.With.{withOn};
 ghost use Rattle.channel_noise.specs.Phase.{NoisePhaseHeld, noisePhaseOf, withNoisePhase};
 use crate::phase::NoisePhase;
+use crate::reloads::reload_at;
 use channel_parts::envelope::Envelope;
 use ground::num::flag;
 use ground::num::flag16;
@@ -20,22 +21,6 @@ pub struct NoiseChannel {
     pub envelope: Envelope,
     pub channel_enabled: bool,
     pub dac_enable: bool,
-}
-
-// The divisor shifted left; what runs past the sixteenth bit is lost.
-fn shift_left(divisor: u16, shift: u8) -> u16
-    requires { ⌜ shift ≤ 15 ⌝ }
-    ensures { λ r. ⌜ r ≡ (divisor * 2 ^ shift) % 65536 ⌝ }
-{
-    divisor << shift
-}
-
-// The divisor of a divisor code.
-fn base_divisor(code: u8) -> u16
-    requires { ⌜ code ≤ 7 ⌝ }
-    ensures { λ r. ⌜ r ≡ divisorOf code ⌝ }
-{
-    if code == 0 { 8 } else { code as u16 * 16 }
 }
 
 // The bit that a step feeds back: 1 where bits 0 and 1 differ.
@@ -142,7 +127,8 @@ impl NoiseChannel {
         requires { ⌜ Held self ⌝ }
         ensures { λ r. ⌜ r ≡ reloadOf self ⌝ }
     {
-        shift_left(base_divisor(self.divisor_code), self.shift_clock_frequency) / 4
+        let ff22 = self.read_noise_register();
+        reload_at(ff22)
     }
 
     // A working clock.

@@ -7,31 +7,30 @@ use Rattle.apu_run.proofs.frames.rest.Statement.{statement}
 use Rattle.apu_run.proofs.frames.rest.Tie as tie
 
 abbrev Inv-loop : tie.InvT-loop
-Inv-loop unit count out₀ start units₀ due₀ left₀ at₀ waiting₀ out units due left at waiting =
+Inv-loop unit list count out₀ start units₀ due₀ left₀ at₀ waiting₀ out units due left at waiting =
     Resting (record { unit = unit; count = count; out = out₀; start = start })
     (record { out = out; units = units; due = due; left = left; at = at; waiting = waiting })
 
 abbrev μ-loop : tie.MeasureT-loop
-μ-loop unit count out₀ start units₀ due₀ left₀ at₀ waiting₀ out units due left at waiting = left
+μ-loop unit list count out₀ start units₀ due₀ left₀ at₀ waiting₀ out units due left at waiting = left
 
 units-of-requires : tie.Need-units-of-requires Inv-loop μ-loop
 units-of-requires c κs =
-    let start = c .before in
+    let start = c .before .before in
     start .pre .1 .1 .0 .counter
 
 until-requires : tie.Need-until-requires Inv-loop μ-loop
 until-requires c κs =
     let units-of = c .units-of in
-    let start = c .before .before in
+    let start = c .before .before .before in
     rw (units-of .ensures) (kept-below _ (start .pre .1 .1 .0 .counter))
 
 loop-holds : tie.Need-loop-holds Inv-loop μ-loop
 loop-holds c =
     let until = c .until in
     let units-of = c .before .units-of in
-    let start = c .before .before .before in
-    let pre = start .pre in
-    resting-first (pre .0) (pre .1 .0) (pre .1 .1 .0) (units-of .ensures) (until .ensures) (pre .1 .1 .1 .0) (pre .1 .1 .1 .1)
+    let pre = c .before .before .before .before .pre in
+    resting-first (pre .0) (pre .1 .0) (pre .1 .1 .0) (units-of .ensures) (until .ensures) (pre .1 .1 .1 .1 .0) (pre .1 .1 .1 .1 .1)
 
 put-silence-requires : tie.Need-put-silence-requires Inv-loop μ-loop
 put-silence-requires c κs =
@@ -43,7 +42,7 @@ add-at : tie.Need-add-at Inv-loop μ-loop
 add-at c =
     let loop-test = c .before .before .before .before .loop-test in
     let loop = c .before .before .before .before .before .loop in
-    let start = c .before .before .before .before .before .before .before .before .before in
+    let start = c .before .before .before .before .before .before .before .before .before .before in
     omega (arith, silent-room (loop .inv) (loop-test .taken), out-long (loop .inv), start .good)
 
 past-frame-requires : tie.Need-past-frame-requires Inv-loop μ-loop
@@ -82,13 +81,14 @@ sound-from-requires : tie.Need-sound-from-requires Inv-loop μ-loop
 sound-from-requires c κs =
     let loop = c .before .before .loop in
     let inv = loop .inv in
-    (inv .held, (inv .floats, (inv .below, (inv .few, last-room inv))))
+    let pre = c .before .before .before .before .before .before .before .pre in
+    (inv .held, (inv .floats, (pre .1 .1 .1 .0, (inv .below, (inv .few, last-room inv)))))
 
 same-length : tie.Need-same-length Inv-loop μ-loop
 same-length c =
     let sound-from = c .before .before .sound-from in
     let loop = c .before .before .before .before .before .loop in
-    sound-from .kept .1 .1 .1 .1 .0 ∙ out-long (loop .inv)
+    sound-from .kept .1 .1 .1 .1 .1 .0 ∙ out-long (loop .inv)
 
 returns : tie.Need-returns Inv-loop μ-loop
 returns c =

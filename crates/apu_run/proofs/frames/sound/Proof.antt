@@ -12,17 +12,18 @@ use Rattle.apu_run.proofs.frames.sound.Tie as tie
 sound-from-requires : tie.Need-sound-from-requires
 sound-from-requires c κs =
     let units-of = c .before .units-of in
-    let start = c .before .before .before in
+    let start = c .before .before .before .before in
     let pre = start .pre in
     let unit = start .args .unit in
     let same = ap (λ (x : ℕ). behind unit x 0) (units-of .ensures) ∙ behind-none unit (pre .1 .0) in
-    (pre .0, (pre .1 .0, (rw (units-of .ensures) (kept-below _ (pre .1 .0 .counter)), (omega (arith, pre .1 .1 .0), rw same (pre .1 .1 .1)))))
+    let kept = kept-below _ (pre .1 .0 .counter) in
+    (pre .0, (pre .1 .0, (pre .1 .1 .0, (rw (units-of .ensures) kept, (omega (arith, pre .1 .1 .1 .0), rw same (pre .1 .1 .1 .1))))))
 
 returns : tie.Need-returns
 returns c =
     let sound-from = c .before .before .sound-from in
     let units-of = c .before .before .before .before .units-of in
-    let start = c .before .before .before .before .before .before in
+    let start = c .before .before .before .before .before .before .before in
     let unit = start .args .unit in
     let same = ap (λ (x : ℕ). behind unit x 0) (units-of .ensures) ∙ behind-none unit (start .pre .1 .0) in
     rw same at (sound-from .ensures)

@@ -19,7 +19,7 @@ use Rattle.apu_run.proofs.frames.sound_from.Statement.{statement}
 use Rattle.apu_run.proofs.frames.sound_from.Tie as tie
 
 abbrev Inv-loop : tie.InvT-loop
-Inv-loop unit ahead count waiting out₀ start settings each fast ram phases₀ converters₀ units₀ due₀ left₀ at₀ pending₀ levels₀ known₀
+Inv-loop unit list ahead count waiting out₀ start settings each fast ram phases₀ converters₀ units₀ due₀ left₀ at₀ pending₀ levels₀ known₀
     out phases converters units due left at pending levels known =
     Running
     (record {
@@ -47,26 +47,32 @@ Inv-loop unit ahead count waiting out₀ start settings each fast ram phases₀ 
     })
 
 abbrev μ-loop : tie.MeasureT-loop
-μ-loop unit ahead count waiting out₀ start settings each fast ram phases₀ converters₀ units₀ due₀ left₀ at₀ pending₀ levels₀ known₀
+μ-loop unit list ahead count waiting out₀ start settings each fast ram phases₀ converters₀ units₀ due₀ left₀ at₀ pending₀ levels₀ known₀
     out phases converters units due left at pending levels known =
     left
+
+settings-of-requires : tie.Need-settings-of-requires Inv-loop μ-loop
+settings-of-requires c κs =
+    let pre = c .before .before .pre in
+    (pre .0, pre .1 .1 .0)
 
 fast-of-requires : tie.Need-fast-of-requires Inv-loop μ-loop
 fast-of-requires c κs =
     let settings-of = c .before .settings-of in
-    let args = c .before .before .before .args in
-    let pre = c .before .before .before .pre in
+    let start = c .before .before .before .before in
+    let args = start .args in
+    let pre = start .pre in
     rw (settings-of .ensures) (settings-held (args .unit) (pre .0))
 
 phases-of-requires : tie.Need-phases-of-requires Inv-loop μ-loop
 phases-of-requires c κs =
-    let pre = c .before .before .before .before .before .pre in
+    let pre = c .before .before .before .before .before .before .pre in
     pre .0
 
 until-requires : tie.Need-until-requires Inv-loop μ-loop
 until-requires c κs =
-    let pre = c .before .before .before .before .before .before .before .pre in
-    pre .1 .1 .0
+    let pre = c .before .before .before .before .before .before .before .before .pre in
+    pre .1 .1 .1 .0
 
 loop-holds : tie.Need-loop-holds Inv-loop μ-loop
 loop-holds c =
@@ -75,13 +81,14 @@ loop-holds c =
     let phases-of = c .before .before .before .phases-of in
     let frame-settings-of = c .before .before .before .before .before .before .frame-settings-of in
     let settings-of = c .before .before .before .before .before .before .before .settings-of in
-    let args = c .before .before .before .before .before .before .before .before .before .args in
-    let pre = c .before .before .before .before .before .before .before .before .before .pre in
+    let start = c .before .before .before .before .before .before .before .before .before .before in
+    let args = start .args in
+    let pre = start .pre in
     let u = args .unit in
-    let room = rw (ap (λ (t : Take). length (t .bytes)) (behind-ran u (args .count) (args .ahead) (args .waiting))) at (pre .1 .1 .1 .1) in
+    let room = rw (ap (λ (t : Take). length (t .bytes)) (behind-ran u (args .count) (args .ahead) (args .waiting))) at (pre .1 .1 .1 .1 .1) in
     rw (phases-of .ensures, converters-of .ensures, frame-settings-of .ensures, settings-of .ensures)
     (running-first (settings-held u (pre .0)) refl (phases-held u (pre .0)) (converters-held u (pre .1 .0))
-    (pre .1 .1 .0) (until .ensures) (pre .1 .1 .1 .0) room)
+    (pre .1 .1 .1 .0) (until .ensures) (pre .1 .1 .1 .1 .0) room)
 
 add-clocks : tie.Need-add-clocks Inv-loop μ-loop
 add-clocks c =
@@ -127,7 +134,7 @@ returns c =
     let phases-of = back10 .before .before .before .phases-of in
     let frame-settings-of = back10 .before .before .before .before .before .before .frame-settings-of in
     let settings-of = back10 .before .before .before .before .before .before .before .settings-of in
-    let a = back10 .before .before .before .before .before .before .before .before .before .args in
+    let a = back10 .before .before .before .before .before .before .before .before .before .before .args in
     let hand-back = c .hand-back in
     let moved = moved-of (loop .inv) (before-frame .ensures) (advance .ensures) in
     let same = converters-of2 .ensures ∙ sym (converters-of .ensures) in
@@ -182,7 +189,7 @@ add-at c =
     let loop = c .before .before .before .before .before .before .before .before .loop in
     let back10 = c .before .before .before .before .before .before .before .before .before .before in
     let fast-of = back10 .before .before .before .before .fast-of in
-    let good = back10 .before .before .before .before .before .before .before .before .good in
+    let good = back10 .before .before .before .before .before .before .before .before .before .good in
     let looked =
     ⊎-elim
     (λ w. looked-anew (fast-of .result) (moved-of (loop .inv) (before-frame .ensures) (w .1 .ensures)) (w .2 .left) (w .4 .ensures) (w .5 .ensures)
@@ -216,8 +223,8 @@ add-pending : tie.Need-add-pending Inv-loop μ-loop
 add-pending c =
     let if1 = c .before .before .before .before .before .before .before .before .if1 in
     let before-frame = c .before .before .before .before .before .before .before .before .before .before-frame in
-    let loop = c .before .before .before .before .before .before .before .before .before .before .loop in
     let back10 = c .before .before .before .before .before .before .before .before .before .before in
+    let loop = back10 .loop in
     let fast-of = back10 .before .before .before .before .before .before .fast-of in
     let looked =
     ⊎-elim
@@ -273,7 +280,7 @@ sound-from-spec =
     (tie.spec
     Inv-loop
     μ-loop
-    (λ c κs. search needs)
+    settings-of-requires
     (λ c κs. search needs)
     fast-of-requires
     phases-of-requires

@@ -7,36 +7,30 @@ use Rattle.apu_run.proofs.levels.calm_of.Tie as tie
 
 reload-requires : tie.Need-reload-requires
 reload-requires c κs =
-    let start = c .before .before .before in
+    let start = c .before .before in
     start .pre .0 .pulse1
 
 pulse-calm-requires : tie.Need-pulse-calm-requires
 pulse-calm-requires c κs =
-    let start = c .before .before .before .before in
     let reload = c .reload in
+    let start = c .before .before .before in
     (start .pre .1 .pulse1, omega (arith, reload .ok))
 
 reload-requires-2 : tie.Need-reload-requires-2
 reload-requires-2 c κs =
-    let start = c .before .before .before .before .before in
+    let start = c .before .before .before .before in
     start .pre .0 .pulse2
 
 pulse-calm-requires-2 : tie.Need-pulse-calm-requires-2
 pulse-calm-requires-2 c κs =
-    let start = c .before .before .before .before .before .before in
     let reload = c .reload2 in
+    let start = c .before .before .before .before .before in
     (start .pre .1 .pulse2, omega (arith, reload .ok))
-
-get-frequency-requires : tie.Need-get-frequency-requires
-get-frequency-requires c κs =
-    let start = c .before .before .before .before .before .before .before in
-    start .pre .0 .noise
 
 noise-calm-requires : tie.Need-noise-calm-requires
 noise-calm-requires c κs =
-    let start = c .before .before .before .before .before .before .before .before in
-    let reload = c .get-frequency in
-    (start .pre .1 .noise, omega (arith, reload .ok))
+    let start = c .before .before .before .before .before .before in
+    (start .pre .1 .noise, omega (arith, start .pre .0 .reload))
 
 returns : tie.Need-returns
 unfolding calmOf
@@ -45,11 +39,10 @@ returns c =
     let others = c .before .smaller2 in
     let pulses = c .before .before .before .smaller in
     let noise = c .before .before .before .before .noise-calm in
-    let reload4 = c .before .before .before .before .before .get-frequency in
-    let pulse2 = c .before .before .before .before .before .before .pulse-calm2 in
-    let reload2 = c .before .before .before .before .before .before .before .reload2 in
-    let pulse1 = c .before .before .before .before .before .before .before .before .pulse-calm in
-    let reload1 = c .before .before .before .before .before .before .before .before .before .reload in
+    let pulse2 = c .before .before .before .before .before .pulse-calm2 in
+    let reload2 = c .before .before .before .before .before .before .reload2 in
+    let pulse1 = c .before .before .before .before .before .before .before .pulse-calm in
+    let reload1 = c .before .before .before .before .before .before .before .before .reload in
     rw (
       all .ensures,
       others .ensures,
@@ -57,7 +50,6 @@ returns c =
       noise .ensures,
       pulse2 .ensures,
       pulse1 .ensures,
-      reload4 .ensures,
       reload2 .ensures,
       reload1 .ensures,
     )
@@ -72,8 +64,6 @@ calm-of-spec =
     reload-requires-2
     (λ c. search needs)
     pulse-calm-requires-2
-    get-frequency-requires
-    (λ c. search needs)
     noise-calm-requires
     (λ c κs. search needs)
     (λ c κs. search needs)

@@ -6,36 +6,29 @@ use Rattle.apu_run.proofs.phases.fast_of.Tie as tie
 
 reload-requires : tie.Need-reload-requires
 reload-requires c κs =
-    let pre = c .before .before .before .before .pre in
+    let pre = c .before .before .before .pre in
     pre .pulse1
 
 reload-requires-2 : tie.Need-reload-requires-2
 reload-requires-2 c κs =
-    let pre = c .before .before .before .before .before .pre in
+    let pre = c .before .before .before .before .pre in
     pre .pulse2
 
 reload-requires-3 : tie.Need-reload-requires-3
 reload-requires-3 c κs =
-    let pre = c .before .before .before .before .before .before .pre in
+    let pre = c .before .before .before .before .before .pre in
     pre .wave
-
-get-frequency-requires : tie.Need-get-frequency-requires
-get-frequency-requires c κs =
-    let pre = c .before .before .before .before .before .before .before .before .pre in
-    pre .noise
 
 returns : tie.Need-returns
 unfolding fastOf
 returns c =
-    let get-frequency = c .before .get-frequency in
-    let near = c .before .before .near in
-    let reload3 = c .before .before .before .reload3 in
-    let reload2 = c .before .before .before .before .reload2 in
-    let reload = c .before .before .before .before .before .reload in
+    let near = c .before .near in
+    let reload3 = c .before .before .reload3 in
+    let reload2 = c .before .before .before .reload2 in
+    let reload = c .before .before .before .before .reload in
     rw (
       c .smaller .ensures,
       near .ensures,
-      get-frequency .ensures,
       reload3 .ensures,
       reload2 .ensures,
       reload .ensures,
@@ -52,7 +45,5 @@ fast-of-spec =
     reload-requires-3
     (λ c. search needs)
     (λ c κs. search needs)
-    get-frequency-requires
-    (λ c. search needs)
     (λ c κs. search needs)
     returns)

@@ -2,26 +2,22 @@
 use borrow.Author.Needs.{needs}
 use native.Mathlib.Omega.{arith}
 use mathlib.Core.Path.{sym}
-use Rattle.channel_noise.proofs.Ranges.{reload-most}
 use Rattle.apu_run.proofs.Moves.{moves, stands}
 use Rattle.apu_run.proofs.phases.Phases.advance.Statement.{statement}
 use Rattle.apu_run.proofs.phases.Phases.advance.Tie as tie
 
 advance-requires : tie.Need-advance-requires
 advance-requires c κs =
-    let get-frequency = c .get-frequency in
-    let start = c .before .before .before .before .before in
-    (start .pre .0 .noise, (rw (get-frequency .ensures) (reload-most (start .args .settings .noise)), omega (arith, start .pre .1 .1)))
+    let start = c .before .before .before .before in
+    (start .pre .0 .noise, (start .pre .1 .0 .reload, omega (arith, start .pre .1 .1)))
 
 returns : tie.Need-returns
 returns c =
     let advance = c .before .before .before .advance in
-    let get-frequency = c .before .before .before .before .get-frequency in
-    let advance-tones = c .before .before .before .before .before .before .before .advance-tones in
-    let if1 = c .before .before .before .before .before .before .before .before .if1 in
-    let start = c .before .before .before .before .before .before .before .before .before in
-    let a = start .args in
-    rw (advance .ensures, get-frequency .ensures, advance-tones .ensures) (moves (a .settings) (a .n) (a .self) (if1 .taken))
+    let advance-tones = c .before .before .before .before .before .before .advance-tones in
+    let if1 = c .before .before .before .before .before .before .before .if1 in
+    let a = c .before .before .before .before .before .before .before .before .args in
+    rw (advance .ensures, advance-tones .ensures) (moves (a .settings) (a .n) (a .self) (if1 .taken))
 
 returns-2 : tie.Need-returns-2
 returns-2 c =
@@ -34,8 +30,6 @@ advance-spec =
     tie.close
     (tie.spec
     (λ c κs. search needs)
-    (λ c κs. search needs)
-    (λ c. search needs)
     advance-requires
     returns
     returns-2)

@@ -3,8 +3,8 @@ use borrow.Author.Needs.{needs}
 use borrow.Author.Tests.{eq-eqb, ne-eqb}
 use Rattle.ground.specs.Pick.{pick}
 use Rattle.channel_noise.specs.Noise.{divisorOf}
-use Rattle.channel_noise.proofs.noise_channel.base_divisor.Statement.{statement}
-use Rattle.channel_noise.proofs.noise_channel.base_divisor.Tie as tie
+use Rattle.channel_noise.proofs.reloads.base_divisor.Statement.{statement}
+use Rattle.channel_noise.proofs.reloads.base_divisor.Tie as tie
 
 pub base-divisor-spec : {M : Type 1} → statement M
 unfolding pick divisorOf

@@ -1,0 +1,13 @@
+-- The noise reloads as a list, one for each FF22 byte, from document 02, 2026-03. Assumes nothing.
+use Prim.Native.Nat.{ℕ, zero, suc}
+use mathlib.Core.List.{List, [], _∷_}
+use Rattle.channel_noise.specs.Noise.{reloadAt}
+
+-- the n values of a rule from k on, in order
+unfoldable pub listed : (ℕ → ℕ) → ℕ → ℕ → List ℕ
+listed rule k zero = []
+listed rule k (suc n) = rule k ∷ listed rule (suc k) n
+
+-- "a table of 256 numbers indexed by the FF22 byte"
+unfoldable pub reloadList : List ℕ
+reloadList = listed reloadAt 0 256
