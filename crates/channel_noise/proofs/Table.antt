@@ -6,28 +6,28 @@ use native.Mathlib.Omega.{arith}
 use lib.ListN.{length, getD}
 use Rattle.ground.proofs.Cases.{both-ways}
 use Rattle.channel_noise.specs.Noise.{Held, byteOf, reloadOf, reloadAt}
-use Rattle.channel_noise.specs.Reloads.{listed, reloadList}
+use Rattle.channel_noise.specs.Reloads.{valuesFrom, reloadList}
 use Rattle.channel_noise.specs.declared.noise_channel.NoiseChannel.{NoiseChannel}
 
-listed-length : (rule : ℕ → ℕ) (n i : ℕ) → length (listed rule i n) ≡ n
-unfolding listed
-listed-length rule zero i = refl
-listed-length rule (suc n) i = ap suc (listed-length rule n (suc i))
+values-length : (rule : ℕ → ℕ) (n i : ℕ) → length (valuesFrom rule i n) ≡ n
+unfolding valuesFrom
+values-length rule zero i = refl
+values-length rule (suc n) i = ap suc (values-length rule n (suc i))
 
-listed-there : (rule : ℕ → ℕ) (n i k : ℕ) → k < n → getD (listed rule i n) k 0 ≡ rule (i + k)
-unfolding listed
-listed-there rule zero i k h = absurd (not-suc-le-zero h)
-listed-there rule (suc n) i zero h = ap rule (sym (add-zero i))
-listed-there rule (suc n) i (suc k) h = listed-there rule n (suc i) k (le-of-suc-le-suc h) ∙ ap rule (suc-add i k ∙ sym (add-suc i k))
+value-there : (rule : ℕ → ℕ) (n i k : ℕ) → k < n → getD (valuesFrom rule i n) k 0 ≡ rule (i + k)
+unfolding valuesFrom
+value-there rule zero i k h = absurd (not-suc-le-zero h)
+value-there rule (suc n) i zero h = ap rule (sym (add-zero i))
+value-there rule (suc n) i (suc k) h = value-there rule n (suc i) k (le-of-suc-le-suc h) ∙ ap rule (suc-add i k ∙ sym (add-suc i k))
 
 pub reloads-length : length reloadList ≡ 256
 unfolding reloadList
-reloads-length = listed-length reloadAt 256 0
+reloads-length = values-length reloadAt 256 0
 
 -- "indexed by the FF22 byte"
 pub reload-there : (k : ℕ) → k < 256 → getD reloadList k 0 ≡ reloadAt k
 unfolding reloadList
-reload-there k h = listed-there reloadAt 256 0 k h ∙ ap reloadAt (zero-add k)
+reload-there k h = value-there reloadAt 256 0 k h ∙ ap reloadAt (zero-add k)
 
 -- what FF22 reads as has the channel's reload
 pub byte-reload : (n : NoiseChannel) → Held n → reloadAt (byteOf n) ≡ reloadOf n
@@ -46,8 +46,8 @@ byte-small n =
     both-ways (λ (bit : ℕ). s % 16 * 16 + bit + c % 8 < 256) (n .«step_mode_7_bits») (omega arith) (omega arith)
 
 -- so has the list there
-pub listed-reload : (n : NoiseChannel) → Held n → getD reloadList (byteOf n) 0 ≡ reloadOf n
-listed-reload n h = reload-there (byteOf n) (byte-small n) ∙ byte-reload n h
+pub reload-at-byte : (n : NoiseChannel) → Held n → getD reloadList (byteOf n) 0 ≡ reloadOf n
+reload-at-byte n h = reload-there (byteOf n) (byte-small n) ∙ byte-reload n h
 
 -- "bit 3 making no difference"
 pub bit-3-no-difference : (shift code : ℕ) → code ≤ 7 → reloadAt (shift * 16 + 8 + code) ≡ reloadAt (shift * 16 + code)

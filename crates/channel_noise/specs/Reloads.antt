@@ -4,10 +4,10 @@ use mathlib.Core.List.{List, [], _∷_}
 use Rattle.channel_noise.specs.Noise.{reloadAt}
 
 -- the n values of a rule from k on, in order
-unfoldable pub listed : (ℕ → ℕ) → ℕ → ℕ → List ℕ
-listed rule k zero = []
-listed rule k (suc n) = rule k ∷ listed rule (suc k) n
+unfoldable pub valuesFrom : (ℕ → ℕ) → ℕ → ℕ → List ℕ
+valuesFrom rule k zero = []
+valuesFrom rule k (suc n) = rule k ∷ valuesFrom rule (suc k) n
 
 -- "a table of 256 numbers indexed by the FF22 byte"
 unfoldable pub reloadList : List ℕ
-reloadList = listed reloadAt 0 256
+reloadList = valuesFrom reloadAt 0 256

@@ -4,7 +4,7 @@ ghost use Prim.Native.Nat.{_≤_, _*_, _%_, _^_};
 ghost use Rattle.channel_noise.specs.Noise.{divisorOf, reloadAt};
 ghost use Rattle.channel_noise.specs.Reloads.{reloadList};
 
-// Each number with its byte beside it. From one step of the noise to the next are one working clock more.
+// Each number with its byte beside it. From one step of the noise to the next it takes one working clock more than the number.
 const RELOADS: [u16; 256] = [
     2, // 00
     4, // 01

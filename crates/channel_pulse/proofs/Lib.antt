@@ -1,3 +1,4 @@
 -- The laws of a pulse channel. Assumes nothing.
 pub mod Ranges
+pub mod NeverWraps
 pub mod Phases

@@ -60,6 +60,11 @@ targetOf s =
     let shifted = s .«frequency_shadow» / 2 ^ s .«shift_n» in
     pick (s .negate) (s .«frequency_shadow» - shifted) (s .«frequency_shadow» + shifted)
 
+-- "so the sum is at most 4094 and the difference never below 0", from document 02, 2026-04: what is taken off is no more than the shadow
+pub record NeverWraps (shadow shift : ℕ) : Type 0 where
+  pub sum : shadow + shadow / 2 ^ shift ≤ 4094
+  pub difference : shadow / 2 ^ shift ≤ shadow
+
 -- "above 2047 the channel goes off"; the "calculated" flag is set
 unfoldable pub calculated : Sweep → Swept
 calculated s = record { sweep = flagged s; frequency = targetOf s; off = ltb 2047 (targetOf s) }

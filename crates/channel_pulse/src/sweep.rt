@@ -78,16 +78,16 @@ impl Sweep {
         next
     }
 
-    // The shadow plus or minus itself shifted. Neither wraps within the ranges.
+    // The shadow plus or minus itself shifted. Neither wraps: the shadow is at most 2047, so the sum is at most 4094 and the difference never below 0.
     fn target(self) -> u16
         requires { ⌜ Held self ⌝ }
         ensures { λ r. ⌜ r ≡ targetOf self ⌝ }
     {
         let shifted = self.frequency_shadow >> self.shift_n;
         if self.negate {
-            std::num::wrapping_sub_u16(self.frequency_shadow, shifted)
+            self.frequency_shadow - shifted
         } else {
-            std::num::wrapping_add_u16(self.frequency_shadow, shifted)
+            self.frequency_shadow + shifted
         }
     }
 

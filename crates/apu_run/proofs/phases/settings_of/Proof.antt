@@ -4,7 +4,7 @@ use native.Mathlib.Omega.{arith}
 use lib.ListN.{getD}
 use borrow.Author.Needs.{needs}
 use Rattle.channel_noise.proofs.Ranges.{reload-most}
-use Rattle.channel_noise.proofs.Table.{reloads-length, listed-reload}
+use Rattle.channel_noise.proofs.Table.{reloads-length, reload-at-byte}
 use Rattle.apu_run.proofs.phases.settings_of.Statement.{statement}
 use Rattle.apu_run.proofs.phases.settings_of.Tie as tie
 
@@ -21,7 +21,7 @@ cast-noise-reload c =
     let a = start .args in
     let pre = start .pre in
     let n = a .unit .noise .channel in
-    let most : getD (a .list .now) (read .result) 0 ≤ 16383 = rw (pre .1, read .ensures, listed-reload n (pre .0 .noise .channel)) (reload-most n) in
+    let most : getD (a .list .now) (read .result) 0 ≤ 16383 = rw (pre .1, read .ensures, reload-at-byte n (pre .0 .noise .channel)) (reload-most n) in
     omega (arith, most)
 
 returns : tie.Need-returns
@@ -30,7 +30,7 @@ returns c =
     let start = c .before .before .before .before .before .before .before in
     let a = start .args in
     let pre = start .pre in
-    rw (pre .1, read .ensures, listed-reload (a .unit .noise .channel) (pre .0 .noise .channel))
+    rw (pre .1, read .ensures, reload-at-byte (a .unit .noise .channel) (pre .0 .noise .channel))
 
 pub settings-of-spec : {M : Type 1} → statement M
 settings-of-spec =
