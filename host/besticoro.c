@@ -1,5 +1,5 @@
 /* The guarded twins of the entries: what is lent is judged, and the default float environment stands around the call. See besticoro.h.
- * A new entry takes one function here: its parts in a row, lend, enter, the call, leave. */
+ * A new entry takes one function here: its parts in a row, lend, and, where it has floats, enter and leave around the call. */
 #include "besticoro.h"
 
 #define REFUSED ((uint64_t)BESTICORO_BAD_MEMORY << 48)
@@ -130,6 +130,13 @@ uint64_t besticoro_play_from_image_counted(const uint8_t *image, size_t image_le
         lent[4].at, counts_length);
     leave(host);
     return answer;
+}
+
+/* An import has no floats: the host's environment stands as it is. */
+uint64_t besticoro_import_vgm(const uint8_t *vgm, size_t vgm_length, uint8_t *log, size_t log_length) {
+    struct part lent[] = {READ(vgm, vgm_length), WRITTEN(log, log_length)};
+    if (!lend(lent, 2)) return REFUSED;
+    return import_vgm(lent[0].at, vgm_length, lent[1].at, log_length);
 }
 
 /* The lent envelope has no floats. */

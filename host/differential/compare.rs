@@ -58,6 +58,9 @@ fn number(refusal: Refusal) -> Refused {
         Refusal::NoRoom { needed } => Refused(6, needed as u64),
         Refusal::WrongImage => Refused(7, 0),
         Refusal::NoRoomForImage { needed } => Refused(8, needed as u64),
+        Refusal::BadHeader(_) => Refused(9, 0),
+        Refusal::WrongCommand { place, .. } => Refused(10, place as u64),
+        Refusal::VgmTooLong => Refused(11, 0),
         Refusal::BadMemory => Refused(0xFFFF, 0),
         Refusal::Unknown { .. } => Refused(u64::MAX, u64::MAX),
     }

@@ -41,8 +41,8 @@ pub fn take_up(image: &[u8]) -> Apu {
     unit
 }
 
-// The frames that the unit has pushed since it was last asked.
-fn take_frames(unit: &mut Apu, answer: &mut Answer) {
+/// The frames that the unit has pushed since it was last asked.
+pub fn take_frames(unit: &mut Apu, answer: &mut Answer) {
     let buffers = unit.get_buffers();
     let parts = [buffers.pulse1(), buffers.pulse2(), buffers.wave(), buffers.noise(), buffers.all()];
     for at in (0..parts[0].len()).step_by(2) {

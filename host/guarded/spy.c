@@ -1,14 +1,19 @@
-// Stands between the guard and the entries (ld --wrap), counts the calls that come through, and sees what they bring: no null pointer, aligned counts, the default float environment.
+// Stands between the guard and the entries (ld --wrap), counts the calls that come through, and sees what they bring: no null pointer, aligned counts, and,
+// where the entry has floats, the default float environment.
 #include "../besticoro.h"
 #include "floats.h"
 
 unsigned spy_calls, spy_wrong;
 
 // One call, and the pointers that it brings.
-static void look(const void *const *parts, unsigned n) {
+static void look_at_parts(const void *const *parts, unsigned n) {
     spy_calls++;
     for (unsigned i = 0; i < n; i++)
         if (!parts[i]) spy_wrong++;
+}
+
+static void look(const void *const *parts, unsigned n) {
+    look_at_parts(parts, n);
     // the control bits alone: on Arm the flags of the host still stand
     if ((uint32_t)get() != (uint32_t)DEFAULT) spy_wrong++;
 }
@@ -54,4 +59,11 @@ uint64_t __wrap_play_from_image_counted(const uint8_t *image, size_t image_lengt
     const void *parts[] = {image, log, out, after, counts};
     look(parts, 5), look_at_counts(counts);
     return __real_play_from_image_counted(image, image_length, log, log_length, out, out_length, after, after_length, counts, counts_length);
+}
+
+uint64_t __real_import_vgm(const uint8_t *vgm, size_t vgm_length, uint8_t *log, size_t log_length);
+uint64_t __wrap_import_vgm(const uint8_t *vgm, size_t vgm_length, uint8_t *log, size_t log_length) {
+    const void *parts[] = {vgm, log};
+    look_at_parts(parts, 2);
+    return __real_import_vgm(vgm, vgm_length, log, log_length);
 }

@@ -1,19 +1,21 @@
 // states FOLDER: plays the folder's residue logs, and logs on the images that they leave, in every state of the float environment. The guarded entries
 // must give the original's bytes and images and leave the state as it was; the unguarded ones must give others with flush-to-zero and with each directed
-// rounding, so that the comparison can fail. Returns 1 where that is not so.
+// rounding, so that the comparison can fail. An import, which has no floats and no guard of them, must give its log and leave the state too. Returns 1 where
+// that is not so.
 #include "../besticoro.h"
 #include "floats.h"
 #include "files.h"
+#include "vgm.h"
 
 static struct bytes log_bytes, original;
 // the original's state after that log, with what fades in it; a log to play on it, what that makes, and the state after it
 static struct bytes image, later, later_original, later_image;
-static uint8_t *out, after_image[BESTICORO_IMAGE_BYTES];
+static uint8_t *out, after_image[BESTICORO_IMAGE_BYTES], imported[VGM_LOG_BYTES];
 static uint64_t counts[3], wanted_counts[3], later_counts[3];
 static size_t states, wrong;
 
 // The entries: the plain ones, then their guarded twins.
-enum entry { PLAIN, PLAIN_FROM_IMAGE, GUARDED, COUNTED, FROM_IMAGE, FROM_IMAGE_COUNTED, MAKE, ENTRIES };
+enum entry { PLAIN, PLAIN_FROM_IMAGE, GUARDED, COUNTED, FROM_IMAGE, FROM_IMAGE_COUNTED, MAKE, IMPORT, ENTRIES };
 
 static int from_image(enum entry which) { return which == PLAIN_FROM_IMAGE || which == FROM_IMAGE || which == FROM_IMAGE_COUNTED; }
 
@@ -31,17 +33,19 @@ static __attribute__((noinline)) uint64_t call(state s, enum entry which, state 
     case FROM_IMAGE_COUNTED:
         answer = besticoro_play_from_image_counted(image.at, bytes, later.at, later.length, out, room, after_image, bytes, counts, 3);
         break;
-    default: answer = besticoro_make_image(log_bytes.at[1], after_image, bytes); break;
+    case MAKE: answer = besticoro_make_image(log_bytes.at[1], after_image, bytes); break;
+    default: answer = besticoro_import_vgm(vgm_file, VGM_BYTES, imported, VGM_LOG_BYTES); break;
     }
     *after = get();
     set(DEFAULT);
     return answer;
 }
 
-// Whether a call left what the original did: output, image and counts.
+// Whether a call left what the original did: output, image and counts; or the file's log.
 static int same(enum entry which, uint64_t answer, const uint8_t *fresh) {
     const struct bytes *wanted = from_image(which) ? &later_original : &original;
     if (which == MAKE) return answer == sizeof after_image && memcmp(after_image, fresh, sizeof after_image) == 0;
+    if (which == IMPORT) return answer == sizeof imported && memcmp(imported, vgm_log, sizeof imported) == 0;
     if (answer != wanted->length || memcmp(out, wanted->at, wanted->length) != 0) return 0;
     if (which == COUNTED && memcmp(counts, wanted_counts, sizeof counts) != 0) return 0;
     if (which == FROM_IMAGE_COUNTED && memcmp(counts, later_counts, sizeof counts) != 0) return 0;
@@ -59,6 +63,7 @@ static void guarded(state s) {
         memset(out, 0xEE, original.length);
         memset(after_image, 0xEE, sizeof after_image);
         memset(counts, 0xEE, sizeof counts);
+        memset(imported, 0xEE, sizeof imported);
         uint64_t answer = call(s, which, &after);
         if (same(which, answer, fresh) && after == s) continue;
         wrong++, printf("WRONG: state %llx, entry %d: answer %llx, state after %llx\n", (unsigned long long)s, which, (unsigned long long)answer,
@@ -120,6 +125,6 @@ int main(int argc, char **argv) {
         every_state(varied_more, sizeof varied_more / sizeof *varied_more);
     }
     if (logs == 0) return printf("there is no residue log in %s\n", argv[1]), 2;
-    printf("%d logs, each in %zu states, by all five guarded entries: %zu wrong\n", logs, states / logs, wrong);
+    printf("%d logs, each in %zu states, by all six guarded entries: %zu wrong\n", logs, states / logs, wrong);
     return wrong != 0;
 }

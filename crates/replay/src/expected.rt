@@ -40,9 +40,9 @@ pub fn written(case: Case) -> usize {
     }
 }
 
-// How many bytes follow the log: the output's, or in kind 2 their digest.
+// How many bytes follow the log: the output's, or in kinds 2 and 4 their digest.
 pub fn bytes_after(case: Case) -> usize {
-    if case.kind == 2 {
+    if case.kind % 2 == 0 {
         return 8;
     }
     written(case)

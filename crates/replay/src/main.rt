@@ -1,9 +1,11 @@
 // Plays logs whose answers are known, and compares: a line for each family, and the total. Standard input is a row of cases: a head, which `expected` reads,
 // the log, and then for kind 1 the output's bytes, for kind 2 a digest of them in eight; kind 0 names the family that follows, in place of a log.
+// Kinds 3 and 4 are those of a VGM file in place of a log, which is imported; its log is the output.
 // A log that is not refused is played twice: by `play_log`, and on the unit itself, call by call, by `play_plainly`.
 // The first family has the answers of `host/make-answers`, from the rules; the others have the original's, by `host/record`.
 mod compare;
 mod expected;
+mod imported;
 mod plain;
 
 use compare::digest_is;
@@ -15,6 +17,7 @@ use expected::answer_is;
 use expected::bytes_after;
 use expected::case_of;
 use expected::written;
+use imported::import_is;
 use log_player::log::play_log;
 use log_scan::answer::LogAnswer;
 use plain::NOWHERE;
@@ -118,7 +121,7 @@ fn counted(t: Tally, good: bool, bytes: u64) -> Tally {
 fn output_is(case: Case, want: &[u8], out: &[u8]) -> bool {
     let end = written(case);
     let rest = untouched(out, end);
-    if case.kind == 2 {
+    if case.kind % 2 == 0 {
         return rest & digest_is(out, end, want);
     }
     rest & starts_with(out, want, end)
@@ -154,9 +157,13 @@ fn plainly_same(case: Case, log: &[u8], want: &[u8], out: &mut [u8]) -> bool {
     true
 }
 
-// Plays the log both ways and compares everything that it answers.
+// Plays the log both ways, or imports the file, and compares everything that it answers.
 fn replayed(case: Case, log: &[u8], want: &[u8], out: &mut [u8]) -> bool {
     fill(out);
+    if 3 <= case.kind {
+        let same = import_is(case, log, out);
+        return same & output_is(case, want, out);
+    }
     let answer = answer_of(log, case.length, case.room, out);
     let answered = answer_is(case, answer) & output_is(case, want, out);
     answered & plainly_same(case, log, want, out)

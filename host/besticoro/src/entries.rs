@@ -9,6 +9,7 @@ extern "C" {
         image: *const u8, image_length: usize, log: *const u8, log_length: usize,
         out: *mut u8, out_length: usize, after: *mut u8, after_length: usize, counts: *mut u64, counts_length: usize,
     ) -> u64;
+    fn besticoro_import_vgm(vgm: *const u8, vgm_length: usize, log: *mut u8, log_length: usize) -> u64;
     fn besticoro_envelope_trigger(e: *mut Envelope) -> u64;
     fn besticoro_envelope_clock(e: *mut Envelope) -> u64;
 }
@@ -37,6 +38,12 @@ pub fn play_from(image: &[u8], log: &[u8], out: &mut [u8], after: &mut [u8]) -> 
         besticoro_play_from_image_counted(image.0, image.1, log.0, log.1, out_at, out.len(), after_at, after.len(), counts.as_mut_ptr(), counts.len())
     };
     (answer, counts)
+}
+
+/// The answer to a VGM file, and its log where it is done.
+pub fn import_vgm(vgm: &[u8], log: &mut [u8]) -> u64 {
+    // SAFETY: each pointer and length is a live slice's own, the log is borrowed for writing, so nothing overlaps; the entry is proved to touch nothing else and to end.
+    unsafe { besticoro_import_vgm(vgm.as_ptr(), vgm.len(), log.as_mut_ptr(), log.len()) }
 }
 
 /// A trigger, or else a clock, of an envelope.

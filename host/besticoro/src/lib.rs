@@ -1,4 +1,4 @@
-//! Plays logs of Game Boy sound registers by the proved player, over its guarded C entries.
+//! Plays logs of Game Boy sound registers by the proved player, and imports VGM files as such logs, over the guarded C entries.
 //!
 //! The samples are the same bits in whatever float environment the calling thread is, and it gets its own back.
 //!
@@ -25,15 +25,17 @@ mod envelope;
 mod image;
 mod items;
 mod refusal;
+mod vgm;
 
 pub use envelope::Envelope;
 pub use image::{render_from, Image, IMAGE_BYTES};
 pub use items::{items, Channel, Frame, Item, Items, Side};
 pub use refusal::{BadStart, Fault, Refusal};
+pub use vgm::{import_vgm, import_vgm_into, BadHeader, CommandFault};
 
 use std::borrow::Cow;
 
-/// The longest log that is not refused for its length.
+/// The longest log that is not refused for its length, and that an import makes.
 pub const LONGEST_LOG: usize = 65_536;
 
 /// What playing a log made: the output's bytes, and how much of each thing.

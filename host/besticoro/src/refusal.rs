@@ -1,7 +1,8 @@
-//! Why a log was not played or an image not taken, in words that a person can act on.
+//! Why a log was not played, an image not taken or a VGM file not imported, in words that a person can act on.
+use crate::vgm::{bad_header, command_fault, BadHeader, CommandFault};
 use std::fmt;
 
-/// Why a log was not played, or an image not taken or not made. Nothing was written then.
+/// Why a log was not played, an image not taken or not made, or a VGM file not imported. Nothing was written then.
 #[derive(Clone, Copy, Debug, PartialEq, Eq)]
 pub enum Refusal {
     /// 3
@@ -16,9 +17,15 @@ pub enum Refusal {
     WrongImage,
     /// 8
     NoRoomForImage { needed: usize },
+    /// 9
+    BadHeader(BadHeader),
+    /// 10: the place of the command, or with no end the file's length, and what is wrong with it.
+    WrongCommand { place: usize, fault: CommandFault },
+    /// 11
+    VgmTooLong,
     /// FFFF hex: memory that cannot be lent. The functions of this crate lend slices alone, and do not get it.
     BadMemory,
-    /// Numbers that the table does not have, or a log that this crate finds nothing wrong with: the library is not the one that it was written for.
+    /// Numbers that the table does not have, or a log or file that this crate finds nothing wrong with: the library is not the one that it was written for.
     Unknown { refusal: u64, number: u64 },
 }
 
@@ -92,6 +99,11 @@ impl fmt::Display for Refusal {
             Refusal::NoRoom { needed } => write!(f, "the output is shorter than the {needed} bytes needed"),
             Refusal::WrongImage => write!(f, "the image is not one that is taken: its version, its length or a field is wrong"),
             Refusal::NoRoomForImage { needed } => write!(f, "the place for the image is shorter than the {needed} bytes needed"),
+            Refusal::BadHeader(what) => what.fmt(f),
+            Refusal::WrongCommand { place, fault } => write!(f, "byte {place}: {fault}"),
+            Refusal::VgmTooLong => {
+                write!(f, "the log would be longer than 65,536 bytes: at 60 ticks a second one log has room for some 14 to 68 seconds of music")
+            }
             Refusal::BadMemory => write!(f, "the memory lent is null, overlaps or passes the address space"),
             Refusal::Unknown { refusal, number } => write!(f, "refusal {refusal} with {number}, which this crate does not know: is the library of another version?"),
         }
@@ -102,19 +114,36 @@ impl std::error::Error for Refusal {}
 
 /// What an entry's answer to a log says: the bytes written, or why it was refused.
 pub(crate) fn judge(answer: u64, log: &[u8]) -> Result<usize, Refusal> {
-    let (refusal, number) = (answer >> 48, answer & 0xFFFF_FFFF_FFFF);
-    let known = match refusal {
-        0 => return Ok(number as usize),
+    answered(answer, |refusal, number| match refusal {
         3 => Some(Refusal::TooLong),
         4 => bad_start(log).map(Refusal::BadStart),
-        5 => fault_at(log, number as usize).map(|(place, fault)| Refusal::WrongRecord { record: number as usize, place, fault }),
-        6 => Some(Refusal::NoRoom { needed: number as usize }),
+        5 => fault_at(log, number).map(|(place, fault)| Refusal::WrongRecord { record: number, place, fault }),
         7 => Some(Refusal::WrongImage),
-        8 => Some(Refusal::NoRoomForImage { needed: number as usize }),
-        0xFFFF => Some(Refusal::BadMemory),
+        8 => Some(Refusal::NoRoomForImage { needed: number }),
         _ => None,
+    })
+}
+
+/// What the answer to a VGM file says.
+pub(crate) fn judge_import(answer: u64, vgm: &[u8]) -> Result<usize, Refusal> {
+    answered(answer, |refusal, number| match refusal {
+        9 => bad_header(vgm).map(Refusal::BadHeader),
+        10 => command_fault(vgm, number).map(|fault| Refusal::WrongCommand { place: number, fault }),
+        11 => Some(Refusal::VgmTooLong),
+        _ => None,
+    })
+}
+
+/// An answer taken apart, with what its kind of entry knows of a refusal and its number.
+fn answered(answer: u64, known: impl Fn(u64, usize) -> Option<Refusal>) -> Result<usize, Refusal> {
+    let (refusal, number) = (answer >> 48, answer & 0xFFFF_FFFF_FFFF);
+    let why = match refusal {
+        0 => return Ok(number as usize),
+        6 => Some(Refusal::NoRoom { needed: number as usize }),
+        0xFFFF => Some(Refusal::BadMemory),
+        _ => known(refusal, number as usize),
     };
-    Err(known.unwrap_or(Refusal::Unknown { refusal, number }))
+    Err(why.unwrap_or(Refusal::Unknown { refusal, number }))
 }
 
 fn bad_start(log: &[u8]) -> Option<BadStart> {
@@ -231,7 +260,7 @@ mod tests {
     #[test]
     fn numbers_of_another_library() {
         for good in [[1, 1], [2, 1]] {
-            for (refusal, number) in [(1, 0), (4, 0), (5, 2), (5, 900), (9, 3)] {
+            for (refusal, number) in [(1, 0), (4, 0), (5, 2), (5, 900), (9, 0), (10, 2), (11, 0), (12, 3)] {
                 assert_eq!(super::judge(refusal << 48 | number, &good), Err(Refusal::Unknown { refusal, number }));
             }
             assert_eq!(super::judge(0xFFFF << 48, &good), Err(Refusal::BadMemory));

@@ -1,5 +1,6 @@
 -- The answer is `fresh_image`'s, packed. Assumes nothing.
 use borrow.Author.Needs.{needs}
+use native.Mathlib.Omega.{arith}
 use lib.ListN.{length}
 use denote.Ref.{now}
 use Rattle.image_player.proofs.Making.{made-refusal, made-packs}
@@ -12,7 +13,8 @@ packed-requires c κs =
     let made = refused .before .before .before in
     let args = made .before .before .before .args in
     let packs = made-packs (args .start) (length (now (args .image))) in
-    (rw (refused .refusal-of-made .ensures) (made-refusal (made .fresh-image .result)), rw (c .returned-of-made .ensures, made .fresh-image .ensures .0) packs)
+    let few = made-refusal (made .fresh-image .result) in
+    (rw (refused .refusal-of-made .ensures) (omega (arith, few)), rw (c .returned-of-made .ensures, made .fresh-image .ensures .0) packs)
 
 returns : tie.Need-returns
 returns c =

@@ -1,0 +1,2 @@
+-- The laws of entries put to use one after the other. Assumes nothing.
+pub mod Imported  -- an imported log, played
