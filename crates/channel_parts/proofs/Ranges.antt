@@ -8,7 +8,7 @@ use lib.Dec.{eqb, ltb}
 use Rattle.ground.specs.Num.{zero_as_eight}
 use Rattle.ground.proofs.Cases.{pick_holds, both_ways}
 use Rattle.channel_parts.specs.Envelope as envelope
-use Rattle.channel_parts.specs.Length as length
+use Rattle.channel_parts.specs.Length as lengths
 use Rattle.channel_parts.specs.declared.envelope.Envelope.{Envelope}
 use Rattle.channel_parts.specs.declared.length.Length.{Length}
 use Rattle.channel_parts.specs.declared.length.Clocked.{Clocked}
@@ -54,26 +54,26 @@ envelope_clocked_held e h =
     both_ways envelope.Held _ (both_ways envelope.Held _ (stepped_held _ next) next) (counter_held e (e.counter - 1) h (omega arith))
 
 -- ---- the length record, of any maximum
-module _ (most : ℕ) (l : Length) (h : length.Held most l) where
-  pub length_written_held : (v : ℕ) → length.Held most (length.written l v)
+module _ (most : ℕ) (l : Length) (h : lengths.Held most l) where
+  pub length_written_held : (v : ℕ) → lengths.Held most (lengths.written l v)
   length_written_held v = record { max = h.max; length = omega arith; counter = omega arith }
 
-  pub length_reset_held : length.Held most (length.reset l)
+  pub length_reset_held : lengths.Held most (lengths.reset l)
   length_reset_held = record { max = h.max; length = omega arith; counter = omega arith }
 
-  pub length_clocked_held : length.Held most (length.clocked l).length
-  unfolding length.clocked
-  length_clocked_held = both_ways (λ (r : Clocked). length.Held most r.length) _ (record { max = h.max; length = h.length; counter = omega arith }) h
+  pub length_clocked_held : lengths.Held most (lengths.clocked l).length
+  unfolding lengths.clocked
+  length_clocked_held = both_ways (λ (r : Clocked). lengths.Held most r.length) _ (record { max = h.max; length = h.length; counter = omega arith }) h
 
-  pub length_triggered_held : (even : Bool) → length.Held most (length.triggered l even)
-  unfolding length.triggered
-  length_triggered_held even = both_ways (length.Held most) _ (record { max = h.max; length = h.length; counter = omega arith }) h
+  pub length_triggered_held : (even : Bool) → lengths.Held most (lengths.triggered l even)
+  unfolding lengths.triggered
+  length_triggered_held even = both_ways (lengths.Held most) _ (record { max = h.max; length = h.length; counter = omega arith }) h
 
-pub length_fresh_held : (most : ℕ) → length.Held most (length.fresh most)
+pub length_fresh_held : (most : ℕ) → lengths.Held most (lengths.fresh most)
 length_fresh_held most = record { max = refl; length = omega arith; counter = omega arith }
 
-pub length_enabling_held : (most : ℕ) (l : Length) (enable even : Bool) → length.Held most l → length.Held most (length.enabling l enable even).length
-unfolding length.enabling
+pub length_enabling_held : (most : ℕ) (l : Length) (enable even : Bool) → lengths.Held most l → lengths.Held most (lengths.enabling l enable even).length
+unfolding lengths.enabling
 length_enabling_held most l enable even h =
-    let next : length.Held most (length.with_enable l enable) = record { max = h.max; length = h.length; counter = h.counter } in
-    both_ways (λ (r : Clocked). length.Held most r.length) _ (length_clocked_held most (length.with_enable l enable) next) next
+    let next : lengths.Held most (lengths.with_enable l enable) = record { max = h.max; length = h.length; counter = h.counter } in
+    both_ways (λ (r : Clocked). lengths.Held most r.length) _ (length_clocked_held most (lengths.with_enable l enable) next) next

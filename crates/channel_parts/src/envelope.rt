@@ -5,7 +5,7 @@ ghost use Rattle.channel_parts.specs.Envelope.{fresh, written, byte_of, step_vol
 use ground::num::{flag, reload, saturating_sub};
 
 #[repr(C)]
-#[derive(Drop)]
+#[derive(Clone, Copy)]
 pub struct Envelope {
     pub starting_volume: u8,
     pub current_volume: u8,

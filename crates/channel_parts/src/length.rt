@@ -4,7 +4,7 @@ ghost use Rattle.channel_parts.specs.Length.{fresh, written, reset, clocked, new
 
 use ground::num::{flag16, saturating_sub16};
 
-#[derive(Drop)]
+#[derive(Clone, Copy)]
 pub struct Length {
     // 64, of the wave 256
     pub max_length: u16,
@@ -15,7 +15,7 @@ pub struct Length {
 }
 
 // A length record, and whether it turns the channel off.
-#[derive(Drop)]
+#[derive(Clone, Copy)]
 pub struct Clocked {
     pub length: Length,
     pub off: bool,

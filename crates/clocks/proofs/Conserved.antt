@@ -11,7 +11,7 @@ use native.Mathlib.Omega.{arith}
 use lib.Dec.{T, leb, ltb, leb→le, nleb→lt, ltb→lt, nltb→le, lit≤, lit<}
 use lib.Pow.{pow_pos}
 use lib.IntN.{pos, negsuc}
-use lib.Ieee.{Float, fin, binary64, round}
+use lib.Ieee.{fin, binary64, round}
 use lib.Ieee.Scale.{round_same}
 use Rattle.clocks.specs.declared.sample_counter.Ticked.{Ticked}
 use Rattle.ground.specs.Units.{units_of}

@@ -122,13 +122,13 @@ value : (k : ℕ) → k < K → HasValue (units k) false k (2 ^ 48)
 value k h = exact binary64 48 k (lit≤ tt) (lt_of_lt_of_le h (lit≤ tt))
 
 -- k units are k units
-pub units_in : (k : ℕ) → k < K → units_in (units k) ≡ k
-units_in k h = in-value (units k) k (value k h)
+pub units_in_lem : (k : ℕ) → k < K → units_in (units k) ≡ k
+units_in_lem k h = in-value (units k) k (value k h)
 
 -- a kept counter is a whole number of units
 module _ (c : Float) (h : Kept 48 K c) where
   kept_in : units_in c ≡ h.units
-  kept_in = ap units_in h.is ∙ units_in h.units h.below
+  kept_in = ap units_in h.is ∙ units_in_lem h.units h.below
 
   pub kept_is : c ≡ units (units_in c)
   kept_is = h.is ∙ ap units (sym kept_in)
@@ -137,7 +137,7 @@ module _ (c : Float) (h : Kept 48 K c) where
   kept_below = rw kept_in h.below
 
   pub kept_value : HasValue c false (units_in c) (2 ^ 48)
-  kept_value = rw (h.is, units_in h.units h.below) (value h.units h.below)
+  kept_value = rw (h.is, units_in_lem h.units h.below) (value h.units h.below)
 
 -- an f64 holds each number below K
 pub K-held : (k : ℕ) → k < K → T (in_float binary64 (pos k))

@@ -12,14 +12,14 @@ pub const CLOCK_UNITS: u64 = 281474976710656;
 pub const FRAME_UNITS: u64 = 6692696262570359;
 
 // Half-clocks, 0 or 1, and the rest, the sample counter in units of 2^-48, below K of them.
-#[derive(Drop)]
+#[derive(Clone, Copy)]
 pub struct Meter {
     pub half: u64,
     pub rest: u64,
 }
 
 // The frames that some calls make, and the meter after them.
-#[derive(Drop)]
+#[derive(Clone, Copy)]
 pub struct Metered {
     pub frames: u64,
     pub meter: Meter,

@@ -25,7 +25,7 @@ pub fn half_clocks_of(double: bool, count: u32) -> u32
 }
 
 // Whether a working clock makes a frame, and the counter after it.
-#[derive(Drop)]
+#[derive(Clone, Copy)]
 pub struct Ticked {
     pub made: bool,
     pub counter: f64,

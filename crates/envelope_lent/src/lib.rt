@@ -1,4 +1,6 @@
 // What a host gets over an envelope that it lends: the fields behind the reference are updated. They may hold any numbers.
+#![tactic(auto)]
+
 ghost use Rattle.std.specs.Prelude.{◌≡◌};
 ghost use Rattle.channel_parts.specs.Envelope.{clocked, triggered};
 

@@ -55,7 +55,8 @@ div_within x y j n k v N P w g K =
     P P (mul-le-mul_right (units_of_one * n) (mul-le-mul_right 1 w.most)) g K
 
 -- a sum, of whichever signs
-sum_within : (s t : Bool) (a b j l k : ℕ) → a ≤ j → b ≤ l → grid binary32 (j + l) units_of_one ≤ k → k ≤ units_of_one → Within k (sum binary32 s a t b units_of_one)
+sum_within : (s t : Bool) (a b j l k : ℕ) → a ≤ j → b ≤ l → grid binary32 (j + l) units_of_one ≤ k → k ≤ units_of_one
+    → Within k (sum binary32 s a t b units_of_one)
 unfolding sum
 sum_within s t a b j l k A B g K =
     either (beq s t) (part s (a + b) (omega arith)) (either (ltb a b) (part t (b - a) (omega arith)) (part (s && ltb b a) (a - b) (omega arith)))

@@ -206,7 +206,8 @@ module _ (c : Float) (C : Charge c) (o : ℕ) (O : o ≤ 15) where
       let g = snap (C.units - input o) in
       let p = scaled g in
       let P : p ≤ scaled (snap (units_of_one - input o)) = scaled_le g (snap (units_of_one - input o)) down_most in
-      let most : snap (input o + p) ≤ units_of_one = le_trans (snap_le (input o + p) (input o + scaled (snap (units_of_one - input o))) (omega arith)) (tops o O) in
+      let most : snap (input o + p) ≤ units_of_one =
+      le_trans (snap_le (input o + p) (input o + scaled (snap (units_of_one - input o))) (omega arith)) (tops o O) in
       let W : HasValue (mul binary32 (out_of c o) keep) true p units_of_one = kept (out_of c o) true g (out_down h) (le_trans P (gains o O)) in
       record {
         units = snap (input o + p);

@@ -2,13 +2,13 @@
 ghost use Rattle.std.specs.Prelude.{◌≡◌};
 ghost use Rattle.frame.specs.Converter.{fresh, stepped};
 
-#[derive(Drop)]
+#[derive(Clone, Copy)]
 pub struct Converter {
     pub capacitor: f32,
 }
 
 // The converter after a step, and what it gives out.
-#[derive(Drop)]
+#[derive(Clone, Copy)]
 pub struct Converted {
     pub converter: Converter,
     pub dac_out: f32,

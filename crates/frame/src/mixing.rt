@@ -5,14 +5,14 @@ ghost use Rattle.frame.specs.Mixing.{side_of, sides_of, selected_of, voiced, mix
 use crate::converter::Converter;
 
 // The two numbers of a frame that go to one buffer.
-#[derive(Drop)]
+#[derive(Clone, Copy)]
 pub struct Sides {
     pub right: f32,
     pub left: f32,
 }
 
 // The ten numbers of a frame.
-#[derive(Drop)]
+#[derive(Clone, Copy)]
 pub struct Mix {
     pub pulse1: Sides,
     pub pulse2: Sides,
@@ -45,7 +45,7 @@ pub fn sides_of(sample: f32, right: u8, left: u8, rightward: bool, leftward: boo
 }
 
 // A converter after a frame's step, and its channel's two numbers.
-#[derive(Drop)]
+#[derive(Clone, Copy)]
 pub struct Voiced {
     pub converter: Converter,
     pub sides: Sides,

@@ -8,8 +8,7 @@ use native.Mathlib.Nat.{zero-add, add-zero, suc-add, add_assoc, le_of_suc-le-suc
 use native.Mathlib.Omega.{arith}
 use borrow.Author.Tests.{leb-true, leb-false, le-leb, lt-leb}
 use lib.ListN.{length, get_or, take, drop, length-drop, length-append, get_or-append}
-use lib.Dec.{leb, ltb}
-use Rattle.ground.specs.Pick.{pick}
+use lib.Dec.{leb}
 use Rattle.log_records.specs.declared.cut.Cut.{Cut}
 use Rattle.log_records.specs.declared.cut.Cut.TheVariants.{End, Short, Body}
 use Rattle.log_records.specs.declared.judge.Record.{Record}

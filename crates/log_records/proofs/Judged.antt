@@ -9,7 +9,7 @@ use lib.ListN.{length, get_or}
 use borrow.Author.Tests.{leb-true, eqb-true, eq-eqb, ne_eqb}
 use Rattle.ground.specs.Pick.{pick}
 use Rattle.ground.proofs.Cases.{both_ways, pick_holds, pick_false, and_left, and_right}
-use Rattle.log_records.specs.Judge.{word, write_of, read_of, clock_length, divider_in, count_in, fair_of, clock_of, pcm_of, judge_of, no_clocks, clocks_of}
+use Rattle.log_records.specs.Judge.{write_of, read_of, clock_length, divider_in, count_in, fair_of, clock_of, pcm_of, judge_of, no_clocks, clocks_of}
 use Rattle.log_records.specs.declared.divider.Divider.{Divider}
 use Rattle.log_records.specs.declared.judge.Record.{Record}
 use Rattle.log_records.specs.declared.judge.Record.TheVariants.{Write, Read, Clock, Pcm, Wrong}

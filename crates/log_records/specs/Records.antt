@@ -26,7 +26,8 @@ clock_end version at = at + 2 + clock_length version
 unfoldable pub clocks_at : ℕ → List ℕ → ℕ → Clocks
 clocks_at version s at =
     let n = clock_length version in
-    pick (leb (clock_end version at) (length s)) (pick (eqb (word s at) n) (clocks_of (clock_end version at) (judge_of version (body_at s at n))) no_clocks) no_clocks
+    pick (leb (clock_end version at) (length s)) (pick (eqb (word s at) n) (clocks_of (clock_end version at) (judge_of version (body_at s at n))) no_clocks)
+    no_clocks
 
 -- the records in order, each with the place of its first length byte; the row ends where the log does, or at a record cut short
 pub data Parsed : Type 0 where

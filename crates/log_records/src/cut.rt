@@ -5,7 +5,7 @@ ghost use Rattle.log_records.specs.Records.{cut_at, version_of};
 use crate::judge::word_at;
 
 // How the log goes on at a place: it ends, a record is cut short, or there is a body of so many bytes.
-#[derive(Drop)]
+#[derive(Clone, Copy)]
 pub enum Cut {
     End,
     Short,

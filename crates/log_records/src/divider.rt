@@ -3,7 +3,7 @@ ghost use Rattle.std.specs.Prelude.{◌≡◌, ◌≤◌};
 ghost use Rattle.log_records.specs.Divider.{divider_at};
 
 // What a record says of it: a byte, which stands still, or runs on by 1 every 64 calls, `phase` of which are past.
-#[derive(Drop)]
+#[derive(Clone, Copy)]
 pub struct Divider {
     pub byte: u8,
     pub phase: u8,

@@ -7,7 +7,7 @@ use crate::divider::Divider;
 use ground::num::is_sound;
 
 // What a record's body says.
-#[derive(Drop)]
+#[derive(Clone, Copy)]
 pub enum Record {
     Write {
         addr: u16,
@@ -124,7 +124,7 @@ fn judge_clock(version: u8, body: &[u8]) -> Record
 }
 
 // A clock record and the place after it, or none.
-#[derive(Drop)]
+#[derive(Clone, Copy)]
 pub struct Clocks {
     pub right: bool,
     pub double: bool,

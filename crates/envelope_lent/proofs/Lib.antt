@@ -1,2 +1,0 @@
--- The laws of lent envelopes. Assumes nothing.
-pub mod Through  -- one walk for every such function
