@@ -6,7 +6,7 @@ use Rattle.ground.proofs.Cases.{both_ways}
 use Rattle.frame.proofs.Ranges.{stepped_held}
 use Rattle.frame.specs.Mixing.{voiced}
 use Rattle.frame.specs.declared.converter.Converter.{Converter}
-use Rattle.channel_parts.specs.Length as length
+use Rattle.channel_parts.specs.Length as lengths
 use Rattle.channel_parts.specs.declared.length.Length.{Length}
 use Rattle.channel_parts.proofs.Ranges.{envelope_clocked_held, length_fresh_held, length_written_held, length_reset_held, length_clocked_held}
 use Rattle.channel_parts.proofs.Ranges.{length_enabling_held, length_triggered_held}
@@ -42,7 +42,7 @@ high_le f v = omega arith
 -- ---- what is alike for every kind of group
 -- a kind whose groups are in their ranges if their length record and channel are, and whose channel stays so when it goes on or off
 pub record KeepsRanges {G C : Type 0} (k : Kind G C) (most : ℕ) (Own : C → Type 0) : Type 0 where
-  pub put : (d : Converter) (l : Length) (c : C) → length.Held most l → Own c → any.Held k most Own (k.put d l c)
+  pub put : (d : Converter) (l : Length) (c : C) → lengths.Held most l → Own c → any.Held k most Own (k.put d l c)
   pub switched : (c : C) → Own c → (on : Bool) → Own (k.switched c on)
 
 module _ {G C : Type 0} {k : Kind G C} {most : ℕ} {Own : C → Type 0} (ranges : KeepsRanges k most Own) (g : G) (h : any.Held k most Own g) where

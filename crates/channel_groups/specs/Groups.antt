@@ -3,7 +3,7 @@
 use Rattle.std.specs.Prelude.{ℕ, Bool, false, not, ◌&&◌}
 use Rattle.ground.specs.Pick.{pick}
 use Rattle.frame.specs.declared.converter.Converter.{Converter}
-use Rattle.channel_parts.specs.Length as length
+use Rattle.channel_parts.specs.Length as lengths
 use Rattle.channel_parts.specs.declared.length.Length.{Length}
 use Rattle.channel_parts.specs.declared.length.Clocked.{Clocked}
 use Rattle.channel_groups.specs.Bits.{enable_of, trigger_of}
@@ -20,7 +20,7 @@ pub record Kind (G C : Type 0) : Type 0 where
 module _ {G C : Type 0} (k : Kind G C) where
   -- "Ranges held from the start": the length record's with its maximum, and the channel's own
   pub record Held (most : ℕ) (Own : C → Type 0) (g : G) : Type 0 where
-    pub length : length.Held most (k.length g)
+    pub length : lengths.Held most (k.length g)
     pub channel : Own (k.channel g)
 
   -- the group with another converter, length record or channel
@@ -39,16 +39,16 @@ module _ {G C : Type 0} (k : Kind G C) where
 
   -- "A length clock .. turns the channel off"
   unfoldable pub length_clocked : G → G
-  length_clocked g = length_counted g (length.clocked (k.length g)) (k.channel g)
+  length_clocked g = length_counted g (lengths.clocked (k.length g)) (k.channel g)
 
   -- "An FFx4 write sets the frequency first (not noise), then length enable; newly enabled while the next position .. is even, length is clocked at once":
   -- `tuned` sets the frequency
   unfoldable pub readied : (C → C) → G → Bool → ℕ → G
-  readied tuned g even value = length_counted g (length.enabling (k.length g) (enable_of value) even) (tuned (k.channel g))
+  readied tuned g even value = length_counted g (lengths.enabling (k.length g) (enable_of value) even) (tuned (k.channel g))
 
   -- "A trigger with counter 0 sets the maximum": of the length record, and of the channel by its own rule, `started`
   unfoldable pub triggered : (C → C) → G → Bool → G
-  triggered started g even = k.put (k.converter g) (length.triggered (k.length g) even) (started (k.channel g))
+  triggered started g even = k.put (k.converter g) (lengths.triggered (k.length g) even) (started (k.channel g))
 
   -- a write of FFx4
   unfoldable pub controlled : (C → C) → (C → C) → G → Bool → ℕ → G
@@ -57,7 +57,7 @@ module _ {G C : Type 0} (k : Kind G C) where
 
   -- "off DMG the lengths at maximum"
   unfoldable pub refilled : G → G
-  refilled g = with_length g (length.reset (k.length g))
+  refilled g = with_length g (lengths.reset (k.length g))
 
   -- "then all channels go off"
   unfoldable pub silenced : G → G

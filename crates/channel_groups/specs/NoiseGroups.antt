@@ -5,7 +5,7 @@ use Rattle.ground.specs.Pick.{pick}
 use Rattle.frame.specs.Converter as converter
 use Rattle.frame.specs.Mixing.{voiced}
 use Rattle.frame.specs.Held as float
-use Rattle.channel_parts.specs.Length as length
+use Rattle.channel_parts.specs.Length as lengths
 use Rattle.channel_parts.specs.Envelope as envelope
 use Rattle.channel_noise.specs.Noise as channel
 use Rattle.channel_noise.specs.With.{with_on, with_envelope}
@@ -37,14 +37,14 @@ FloatHeld g = float.Held g.converter
 
 -- "Start: everything 0 or off"
 abbrev pub fresh : NoiseGroup
-fresh = record { converter = converter.fresh; length = length.fresh 64; channel = channel.fresh }
+fresh = record { converter = converter.fresh; length = lengths.fresh 64; channel = channel.fresh }
 
 abbrev pub with_channel : NoiseGroup → NoiseChannel → NoiseGroup
 with_channel = any.with_channel kind
 
 -- a write of FF20
 unfoldable pub length_written : NoiseGroup → ℕ → NoiseGroup
-length_written g value = any.with_length kind g (length.written g.length (value % 64))
+length_written g value = any.with_length kind g (lengths.written g.length (value % 64))
 
 -- a write of FF21
 unfoldable pub envelope_written : NoiseGroup → ℕ → NoiseGroup

@@ -5,7 +5,7 @@ use Rattle.ground.specs.Pick.{pick}
 use Rattle.frame.specs.Converter as converter
 use Rattle.frame.specs.Mixing.{voiced}
 use Rattle.frame.specs.Held as float
-use Rattle.channel_parts.specs.Length as length
+use Rattle.channel_parts.specs.Length as lengths
 use Rattle.channel_parts.specs.Envelope as envelope
 use Rattle.channel_pulse.specs.Pulse as channel
 use Rattle.channel_pulse.specs.With.{with_on, with_frequency, with_position, with_envelope}
@@ -37,7 +37,7 @@ FloatHeld g = float.Held g.converter
 
 -- "Start: everything 0 or off"
 abbrev pub fresh : PulseGroup
-fresh = record { converter = converter.fresh; length = length.fresh 64; channel = channel.fresh }
+fresh = record { converter = converter.fresh; length = lengths.fresh 64; channel = channel.fresh }
 
 abbrev pub with_channel : PulseGroup → PulseChannel → PulseGroup
 with_channel = any.with_channel kind
@@ -51,7 +51,7 @@ unfoldable pub length_written : PulseGroup → Bool → ℕ → PulseGroup
 length_written g power value =
     record {
       converter = g.converter;
-      length = length.written g.length (value % 64);
+      length = lengths.written g.length (value % 64);
       channel = pick power (channel.duty_written g.channel (value / 64)) g.channel;
     }
 

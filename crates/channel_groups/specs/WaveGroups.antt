@@ -5,7 +5,7 @@ use Rattle.ground.specs.Pick.{pick}
 use Rattle.frame.specs.Converter as converter
 use Rattle.frame.specs.Mixing.{voiced}
 use Rattle.frame.specs.Held as float
-use Rattle.channel_parts.specs.Length as length
+use Rattle.channel_parts.specs.Length as lengths
 use Rattle.channel_wave.specs.Wave as channel
 use Rattle.channel_wave.specs.With.{with_on, with_frequency, with_position}
 use Rattle.channel_wave.specs.declared.wave_channel.WaveChannel.{WaveChannel}
@@ -36,7 +36,7 @@ FloatHeld g = float.Held g.converter
 
 -- "Start: everything 0 or off"
 abbrev pub fresh : WaveGroup
-fresh = record { converter = converter.fresh; length = length.fresh 256; channel = channel.fresh }
+fresh = record { converter = converter.fresh; length = lengths.fresh 256; channel = channel.fresh }
 
 abbrev pub with_channel : WaveGroup → WaveChannel → WaveGroup
 with_channel = any.with_channel kind
@@ -47,7 +47,7 @@ dac_written g value = with_channel g (channel.dac_set g.channel (leb 128 value))
 
 -- a write of FF1B
 unfoldable pub length_written : WaveGroup → ℕ → WaveGroup
-length_written g value = any.with_length kind g (length.written g.length value)
+length_written g value = any.with_length kind g (lengths.written g.length value)
 
 -- a write of FF1C: bits 5 and 6 are the volume
 unfoldable pub volume_written : WaveGroup → ℕ → WaveGroup

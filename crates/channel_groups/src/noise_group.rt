@@ -9,7 +9,7 @@ use channel_parts::length::Length;
 use frame::converter::Converter;
 use frame::mixing::{Sides, voice};
 
-#[derive(Drop)]
+#[derive(Clone, Copy)]
 pub struct NoiseGroup {
     pub converter: Converter,
     pub length: Length,
@@ -17,7 +17,7 @@ pub struct NoiseGroup {
 }
 
 // A group after its part in a frame, and the two numbers that it sounds.
-#[derive(Drop)]
+#[derive(Clone, Copy)]
 pub struct NoiseSounded {
     pub group: NoiseGroup,
     pub sides: Sides,

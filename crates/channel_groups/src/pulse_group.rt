@@ -10,7 +10,7 @@ use channel_pulse::pulse_channel::PulseChannel;
 use frame::converter::Converter;
 use frame::mixing::{Sides, voice};
 
-#[derive(Drop)]
+#[derive(Clone, Copy)]
 pub struct PulseGroup {
     pub converter: Converter,
     pub length: Length,
@@ -18,7 +18,7 @@ pub struct PulseGroup {
 }
 
 // A group after its part in a frame, and the two numbers that it sounds.
-#[derive(Drop)]
+#[derive(Clone, Copy)]
 pub struct PulseSounded {
     pub group: PulseGroup,
     pub sides: Sides,

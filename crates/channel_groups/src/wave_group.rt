@@ -10,7 +10,7 @@ use frame::converter::Converter;
 use frame::mixing::{Sides, voice};
 use ground::num::flag;
 
-#[derive(Drop)]
+#[derive(Clone, Copy)]
 pub struct WaveGroup {
     pub converter: Converter,
     pub length: Length,
@@ -18,7 +18,7 @@ pub struct WaveGroup {
 }
 
 // A group after its part in a frame, and the two numbers that it sounds.
-#[derive(Drop)]
+#[derive(Clone, Copy)]
 pub struct WaveSounded {
     pub group: WaveGroup,
     pub sides: Sides,

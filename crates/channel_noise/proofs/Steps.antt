@@ -4,7 +4,7 @@ use mathlib.Core.Bool.{Bool, true, false, not}
 use Prim.Native.Nat.{ℕ, ◌+◌, ◌*◌, ◌/◌, ◌%◌, ◌≤◌}
 use native.Mathlib.Omega.{arith}
 use lib.Dec.{eqb}
-use borrow.Author.Tests.{eqb-true, eqb-false, not_true, not_false}
+use borrow.Author.Tests.{eqb-true, eqb-false, not-true, not-false}
 use Rattle.ground.specs.Pick.{pick}
 use Rattle.ground.specs.Iterate.{iterate}
 use Rattle.ground.proofs.Cases.{pick_holds}
@@ -17,8 +17,8 @@ pub feedback_sum : (r : ℕ) → feedback_of r ≡ (r + r / 2) % 2
 unfolding feedback_of
 feedback_sum r =
     pick_holds (λ (x : ℕ). x ≡ (r + r / 2) % 2) (not (eqb (r % 2) (r / 2 % 2))) 1 0
-    (λ e. unlike (eqb-false (r % 2) (r / 2 % 2) (not_true _ e)))
-    (λ e. alike (eqb-true (r % 2) (r / 2 % 2) (not_false _ e)))
+    (λ e. unlike (eqb-false (r % 2) (r / 2 % 2) (not-true _ e)))
+    (λ e. alike (eqb-true (r % 2) (r / 2 % 2) (not-false _ e)))
   where
     unlike : (r % 2 ≡ r / 2 % 2 → ⊥) → 1 ≡ (r + r / 2) % 2
     unlike h = omega arith

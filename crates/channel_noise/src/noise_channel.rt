@@ -10,7 +10,7 @@ use crate::reloads::reload_at;
 use channel_parts::envelope::Envelope;
 use ground::num::{flag, flag16};
 
-#[derive(Drop)]
+#[derive(Clone, Copy)]
 pub struct NoiseChannel {
     pub shift_clock_frequency: u8,
     pub step_mode_7_bits: bool,

@@ -7,7 +7,7 @@ use crate::feedback::{step_one, step_times};
 use ground::timer::count_down;
 
 // The register and the timer, wider than in the channel: a loop over them then masks nothing.
-#[derive(Drop)]
+#[derive(Clone, Copy)]
 pub struct NoisePhase {
     pub feedback_shift_register: u32,
     pub frequency_timer: u32,

@@ -83,7 +83,8 @@ pulse_fresh_held =
 
 module _ (p : PulseChannel) (h : pulse.Held p) where
   -- a row of fields written anew
-  sweep_duty_envelope_held : (s : Sweep) (d : ℕ) (e : Envelope) → sweep.Held s → d ≤ 3 → envelope.Held e → pulse.Held (with.with_sweep_duty_and_envelope p s d e)
+  sweep_duty_envelope_held : (s : Sweep) (d : ℕ) (e : Envelope) → sweep.Held s → d ≤ 3 → envelope.Held e
+      → pulse.Held (with.with_sweep_duty_and_envelope p s d e)
   sweep_duty_envelope_held s d e a b k = record { sweep = a; position = h.position; duty = b; envelope = k; frequency = h.frequency; timer = h.timer }
 
   position_frequency_timer_held : (position f timer : ℕ) → position ≤ 7 → f ≤ 2047 → timer ≤ 2047

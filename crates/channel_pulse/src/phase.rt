@@ -6,7 +6,7 @@ ghost use Rattle.channel_pulse.specs.Phase.{PulsePhaseHeld, pulse_phase_clocked}
 use ground::num::flag32;
 use ground::timer::{count_down, count_near};
 
-#[derive(Drop)]
+#[derive(Clone, Copy)]
 pub struct PulsePhase {
     pub sequencer_position: usize,
     pub frequency_timer: u32,

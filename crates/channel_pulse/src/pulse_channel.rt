@@ -10,7 +10,7 @@ use crate::sweep::Sweep;
 use channel_parts::envelope::Envelope;
 use ground::num::flag;
 
-#[derive(Drop)]
+#[derive(Clone, Copy)]
 pub struct PulseChannel {
     pub sweep: Sweep,
     // the step of the duty row that sounds, 0 to 7

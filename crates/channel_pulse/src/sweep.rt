@@ -5,7 +5,7 @@ ghost use Rattle.channel_pulse.specs.Sweep.{clocked, sweep_started, triggered};
 
 use ground::num::{flag, reload, saturating_sub};
 
-#[derive(Drop)]
+#[derive(Clone, Copy)]
 pub struct Sweep {
     pub period: u8,
     pub current_time: u8,
@@ -18,14 +18,14 @@ pub struct Sweep {
 }
 
 // A sweep, and whether it turns the channel off.
-#[derive(Drop)]
+#[derive(Clone, Copy)]
 pub struct Checked {
     pub sweep: Sweep,
     pub off: bool,
 }
 
 // A sweep, a frequency, and whether it turns the channel off.
-#[derive(Drop)]
+#[derive(Clone, Copy)]
 pub struct Swept {
     pub sweep: Sweep,
     pub frequency: u16,

@@ -1,5 +1,6 @@
 -- The rules of the wave channel, from document 01, "Channel rules". Assumes nothing.
-use Rattle.std.specs.Prelude.{ℕ, ◌+◌, ◌-◌, ◌*◌, ◌/◌, ◌%◌, ◌^◌, ◌≤◌, ◌≡◌, ◌⊎◌, Bool, true, false, not, ◌&&◌, ◌||◌, List, eqb, leb, length, get_or, set, replicate}
+use Rattle.std.specs.Prelude.{ℕ, ◌+◌, ◌-◌, ◌*◌, ◌/◌, ◌%◌, ◌^◌, ◌≤◌, ◌≡◌, ◌⊎◌, Bool, true, false, not, ◌&&◌, ◌||◌}
+use Rattle.std.specs.Prelude.{List, eqb, leb, length, get_or, set, replicate}
 use Rattle.ground.specs.Pick.{pick}
 use Rattle.channel_wave.specs.With.{with_volume, with_buffer, with_position_and_timer, with_on, with_dac}
 use Rattle.channel_wave.specs.declared.wave_channel.WaveChannel.{WaveChannel}

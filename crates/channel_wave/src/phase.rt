@@ -5,7 +5,7 @@ ghost use Rattle.channel_wave.specs.Phase.{WavePhaseHeld, wave_phase_clocked};
 
 use ground::timer::{count_down, count_near};
 
-#[derive(Drop)]
+#[derive(Clone, Copy)]
 pub struct WavePhase {
     pub buffer_position: u32,
     pub buffer_position_just_clocked: bool,

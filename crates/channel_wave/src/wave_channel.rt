@@ -7,7 +7,7 @@ ghost use Rattle.channel_wave.specs.Phase.{WavePhaseHeld, wave_phase_of, with_wa
 
 use crate::phase::WavePhase;
 
-#[derive(Drop)]
+#[derive(Clone, Copy)]
 pub struct WaveChannel {
     pub volume: u8,
     // 0, not 4, until FF1C is first written
@@ -24,7 +24,7 @@ pub struct WaveChannel {
 }
 
 // Where in wave RAM an access lands.
-#[derive(Drop)]
+#[derive(Clone, Copy)]
 pub enum BufferIndex {
     At(usize),
     Nowhere,

@@ -6,7 +6,7 @@ use Prim.Native.Nat.{ℕ, zero, suc, ◌+◌, ◌-◌, ◌*◌, ◌/◌, ◌%◌
 use native.Mathlib.Nat.{le_trans, le_of_eq, lt_of_lt_of_le, mul_assoc, mul_comm, mul_right_comm, mul-one, one-mul, mul-pos, add-zero}
 use native.Mathlib.Nat.{div-add-mod', mul-mod_left, mod-eq_of_lt, div-eq_of_lt, eq_of_mul-eq-mul_right, le-div_iff_mul-le, mul-le-mul}
 use native.Mathlib.Omega.{arith}
-use lib.Dec.{T, leb, ltb, eqb, eqb→eq, ltb→lt, lt→ltb, nltb→le, nleb→lt, not_T, lit≤, lit<}
+use lib.Dec.{T, leb, ltb, eqb, eqb→eq, ltb→lt, lt→ltb, nltb→le, nleb→lt, not_T, lit<}
 use lib.Pow.{pow-add, pow_pos, pow_mono, shl_lt}
 use lib.Ieee.{Float, nan, inf, fin, binary64, up, down, odd, of_fields, of_bits, fits}
 use lib.Ieee.Fits.{down_pos, and_l, and_r, and_i, eq→eqb}

@@ -1,13 +1,12 @@
 -- The patterns that a capacitor or a sample counter may have are no NaN's, so that each is read as the float that it is. Assumes nothing.
-use mathlib.Core.Path.{◌≡◌, refl, sym, subst, ap, ◌∙◌}
+use mathlib.Core.Path.{◌≡◌, refl, sym, subst}
 use mathlib.Core.Bool.{Bool, true, false, not, ◌&&◌}
-use Prim.Native.Nat.{ℕ, ◌+◌, ◌*◌, ◌/◌, ◌%◌, ◌^◌, ◌≤◌, ◌<◌}
-use native.Mathlib.Nat.{mod-eq_of_lt}
+use Prim.Native.Nat.{ℕ, ◌/◌, ◌%◌, ◌^◌, ◌≤◌}
 use native.Mathlib.Omega.{arith}
-use lib.Dec.{T, eqb, leb, not_T, eqb→eq, le→leb, lit<}
-use lib.Ieee.{Float, nan, inf, fin, binary32, binary64, of_bits, to_bits, fits, is_nan, nan_bits, top}
-use lib.Ieee.Fits.{and_l, and_i}
-use lib.Ieee.Bits.{of_bits-to_bits, of_bits-fits, to_bits-of_bits, to_bits-lt, nan_bits_is}
+use lib.Dec.{T, eqb, leb, not_T, eqb→eq, le→leb}
+use lib.Ieee.{Float, nan, inf, fin, binary32, binary64, of_bits, is_nan, nan_bits}
+use lib.Ieee.Fits.{and_l}
+use lib.Ieee.Bits.{nan_bits_is}
 use Rattle.image_fields.specs.Floats.{charge_of, is_kept, counter_of}
 use Rattle.ground.specs.Pick.{pick}
 

@@ -1,0 +1,7 @@
+-- The parts are the definition's, by what the calls ensure. Assumes nothing.
+use Rattle.channel_groups.specs.PulseGroups.{envelope_written}
+use Rattle.channel_groups.proofs.pulse_group.PulseGroup.write_envelope.Goals as goal
+
+pub returns : goal.returns
+unfolding envelope_written
+returns c = rw c.write_envelope_register-next.ensures

@@ -1,0 +1,23 @@
+-- Each arm is the case of `byte_in` that the index is, and the index lands within the sixteen bytes. Assumes nothing.
+use Rattle.channel_wave.specs.Wave.{byte_at}
+use mathlib.Core.Path.{sym, ◌∙◌}
+use Rattle.channel_wave.proofs.Ranges.{index_lands}
+use Rattle.channel_wave.proofs.wave_channel.WaveChannel.read_buffer.Goals as goal
+
+pub bounds-buffer-i : goal.bounds-buffer-i
+bounds-buffer-i c =
+    let index = c.wave_buffer_index in
+    let args = c.args in
+    rw (sym index.ensures ∙ c.in-At.is) at (index_lands args.self args.dmg args.offset)
+
+pub returns-in-At : goal.returns-in-At
+unfolding byte_at
+returns-in-At c =
+    let index = c.wave_buffer_index in
+    rw (sym index.ensures ∙ c.in-At.is)
+
+pub returns-in-Nowhere : goal.returns-in-Nowhere
+unfolding byte_at
+returns-in-Nowhere c =
+    let index = c.wave_buffer_index in
+    rw (sym index.ensures ∙ c.in-Nowhere.is)
