@@ -64,7 +64,8 @@ skipped_held dmg =
 
 -- ---- a row of fields written anew
 module _ (a : Apu) (h : Held a) where
-  pub groups_held : (p q : PulseGroup) (w : WaveGroup) (n : NoiseGroup) → pulse.Held p → pulse.Held q → wave.Held w → noise.Held n → Held (with_groups a p q w n)
+  pub groups_held : (p q : PulseGroup) (w : WaveGroup) (n : NoiseGroup) → pulse.Held p → pulse.Held q → wave.Held w → noise.Held n
+      → Held (with_groups a p q w n)
   groups_held p q w n hp hq hw hn = record { pulse1 = hp; pulse2 = hq; wave = hw; noise = hn; position = h.position; clocks = h.clocks }
 
   unit_registers_held : (control selection : ℕ) (on : Bool) → Held (with_unit_registers a control selection on)

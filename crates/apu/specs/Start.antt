@@ -4,7 +4,7 @@ use Rattle.std.specs.Float.{binary64}
 use Rattle.std.specs.Float.Ieee.{of_bits}
 use Rattle.ground.specs.Pick.{pick}
 use Rattle.channel_parts.specs.Envelope as envelope
-use Rattle.channel_parts.specs.Length as length
+use Rattle.channel_parts.specs.Length as lengths
 use Rattle.channel_pulse.specs.Pulse.{duty_written}
 use Rattle.channel_pulse.specs.With.{with_on, with_envelope}
 use Rattle.channel_groups.specs.declared.pulse_group.PulseGroup.{PulseGroup}
@@ -43,7 +43,7 @@ booted g =
 
 -- "noise length counter 1": the maximum, 64, less 63
 abbrev pub shortened : NoiseGroup → NoiseGroup
-shortened g = record { converter = g.converter; length = length.written g.length 0x3F; channel = g.channel }
+shortened g = record { converter = g.converter; length = lengths.written g.length 0x3F; channel = g.channel }
 
 -- `new_skip_boot_rom`: the two above, and "FF24 77, FF25 F3, power on"
 unfoldable pub skipped : Bool → Apu

@@ -1,4 +1,6 @@
 // The sound unit: `Apu` of apu.rs, its record and constructors here, the rest by part.
+#![tactic(auto)]
+
 pub mod registers; // registers.rt: reads, writes and power
 
 ghost use Rattle.std.specs.Prelude.{◌≡◌};
@@ -9,7 +11,7 @@ use channel_groups::noise_group::NoiseGroup;
 use channel_groups::pulse_group::PulseGroup;
 use channel_groups::wave_group::WaveGroup;
 
-#[derive(Drop)]
+#[derive(Clone, Copy)]
 pub struct Apu {
     pub pulse1: PulseGroup,
     pub pulse2: PulseGroup,

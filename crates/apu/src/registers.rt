@@ -14,21 +14,21 @@ use clocks::position::next_position;
 use ground::num::{flag, is_sound};
 
 // What a read answers: the byte, or refusal 1.
-#[derive(Drop)]
+#[derive(Clone, Copy)]
 pub enum Read {
     Byte(u8),
     WrongAddress,
 }
 
 // What a write answers: done, or refusal 1.
-#[derive(Drop)]
+#[derive(Clone, Copy)]
 pub enum Write {
     Done,
     WrongAddress,
 }
 
 // A write's answer, and the unit after it.
-#[derive(Drop)]
+#[derive(Clone, Copy)]
 pub struct Written {
     pub answer: Write,
     pub apu: Apu,
@@ -308,7 +308,8 @@ impl Apu {
     // A write of any address.
     pub fn write_register(self, addr: u16, value: u8) -> Written
         requires { Held self }
-        ensures value { (result ≡ write_of self addr value) × (refusal_of_write result.answer ≡ pick (is_sound addr) 0 1) × (returned_of_write result.answer ≡ 0) }
+        ensures value { (result ≡ write_of self addr value) × (refusal_of_write result.answer ≡ pick (is_sound addr) 0 1)
+            × (returned_of_write result.answer ≡ 0) }
         ensures held { Held result.apu × (FloatsHeld self → FloatsHeld result.apu) }
     {
         if is_sound(addr) {

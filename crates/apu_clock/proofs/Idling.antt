@@ -9,7 +9,7 @@ use lib.IntN.{pos}
 use Rattle.ground.specs.Pick.{pick}
 use Rattle.ground.proofs.Cases.{pick_false}
 use Rattle.clocks.specs.Position.{next_of}
-use Rattle.channel_parts.specs.Length as length
+use Rattle.channel_parts.specs.Length as lengths
 use Rattle.channel_parts.specs.declared.length.Clocked.{Clocked}
 use Rattle.channel_groups.specs.Groups as any
 use Rattle.channel_groups.specs.Groups.{Kind}
@@ -26,7 +26,7 @@ use Rattle.apu_clock.specs.Sequencer.{lengths_clocked, sweep_clocked, envelopes_
 -- ---- a length clock where no length counts
 still : {G C : Type 0} (k : Kind G C) (g : G) → (k.length g).counter_decrease_enable ≡ false
     → any.length_clocked k g ≡ k.put (k.converter g) (k.length g) (k.switched (k.channel g) (k.on (k.channel g)))
-unfolding any.length_clocked length.clocked
+unfolding any.length_clocked lengths.clocked
 still k g e =
     let c = k.channel g in
     ap (λ (x : Clocked). any.length_counted k g x c) (pick_false _ _ _ e)

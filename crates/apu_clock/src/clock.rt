@@ -13,7 +13,7 @@ use frame::buffers::{all_have_room, put_frame};
 use frame::mixing::{Mix, mix_of};
 
 // What a clock call answers: no frame made, a frame made, or refusal 2.
-#[derive(Drop)]
+#[derive(Clone, Copy)]
 pub enum Answer {
     Nothing,
     Frame,
@@ -21,14 +21,14 @@ pub enum Answer {
 }
 
 // A clock call's answer, and the unit after it.
-#[derive(Drop)]
+#[derive(Clone, Copy)]
 pub struct Clocked {
     pub answer: Answer,
     pub apu: Apu,
 }
 
 // The unit after a frame, and the frame's ten numbers.
-#[derive(Drop)]
+#[derive(Clone, Copy)]
 pub struct Framed {
     pub apu: Apu,
     pub mix: Mix,

@@ -8,7 +8,6 @@ use Rattle.image.specs.Layout.{image_length}
 use Rattle.image.specs.Image.{unit_bytes, unit_at, unit_fits}
 use Rattle.image.specs.declared.keep.Saved.{Saved}
 use Rattle.image.specs.declared.keep.Saved.TheVariants as saved
-use Rattle.image.specs.declared.keep.Image.{Image}
 use Rattle.image.specs.declared.keep.Image.TheVariants as image
 use Rattle.image.specs.declared.keep.Taken.{Taken}
 

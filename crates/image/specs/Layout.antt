@@ -1,6 +1,6 @@
 -- Where each part of an image begins: "Byte 0 is version 1, then the length of the rest in two bytes, then every field in the Rust structures' order".
 -- Quotes are request 2026-01's. Assumes nothing.
-use Rattle.std.specs.Prelude.{ℕ, ◌+◌}
+use Rattle.std.specs.Prelude.{ℕ}
 
 abbrev pub version : ℕ
 version = 1

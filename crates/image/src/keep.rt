@@ -8,21 +8,21 @@ use crate::unit::{put_unit, read_unit, unit_fits};
 use apu::Apu;
 
 // What keeping a unit answers: refusal 8 has the bytes needed.
-#[derive(Drop)]
+#[derive(Clone, Copy)]
 pub enum Saved {
     Done,
     TooShort { needed: usize },
 }
 
 // What taking one up answers: refusal 7, the image is wrong.
-#[derive(Drop)]
+#[derive(Clone, Copy)]
 pub enum Image {
     Done,
     Wrong,
 }
 
 // The answer, and the unit.
-#[derive(Drop)]
+#[derive(Clone, Copy)]
 pub struct Taken {
     pub answer: Image,
     pub apu: Apu,

@@ -39,7 +39,8 @@ pattern_mono a b h =
       | inl e ↦ subst (λ (x : ℕ). x * 2 ^ 23 + a / 2 ^ x ≤ k * 2 ^ 23 + b / 2 ^ k) (sym e) (same k)
       | inr l ↦
           join j k (a / 2 ^ j) (b / 2 ^ k) l (kept-lt 24 a)
-          ((le-div_iff_mul-le (pow_pos k)).1 (le_trans (le_of_eq (sym (pow-add 2 23 k))) (size_reaches b (23 + k) (in_use (size b) (lt_of_le_of_lt zero-le l)))))
+          ((le-div_iff_mul-le (pow_pos k)).1 (le_trans (le_of_eq (sym (pow-add 2 23 k)))
+          (size_reaches b (23 + k) (in_use (size b) (lt_of_le_of_lt zero-le l)))))
     ]
   where
     add_left : (m x y : ℕ) → x ≤ y → m + x ≤ m + y

@@ -82,7 +82,7 @@ own_fits (suc (suc zero)) h = tt
 own_fits (suc (suc (suc zero))) h = tt
 own_fits (suc (suc (suc (suc v)))) h = absurd (omega arith)
 
-pub shift_fits : (volume shift : ℕ) → volume ≤ 3 → ShiftHeld volume shift → T (shift_fits volume shift)
+pub shift_fits_lem : (volume shift : ℕ) → volume ≤ 3 → ShiftHeld volume shift → T (shift_fits volume shift)
 unfolding shift_fits
-shift_fits volume shift h (inl e) = subst (λ (i : ℕ). T (shift_fits volume i)) (sym e) (own_fits volume h)
-shift_fits volume shift h (inr none) = rw (none.0, none.1) tt
+shift_fits_lem volume shift h (inl e) = subst (λ (i : ℕ). T (shift_fits volume i)) (sym e) (own_fits volume h)
+shift_fits_lem volume shift h (inr none) = rw (none.0, none.1) tt

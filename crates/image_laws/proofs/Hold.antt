@@ -1,6 +1,6 @@
 -- Request 2026-01's promises of images hold: by the laws of a whole image, and demand 3's from any unit in its ranges. Assumes nothing.
 use mathlib.Core.Path.{◌≡◌, refl, sym, ◌∙◌, ap, subst}
-use mathlib.Core.Bool.{Bool, true, false, ◌&&◌}
+use mathlib.Core.Bool.{Bool, true, false}
 use mathlib.Core.List.{List}
 use Prim.Native.Nat.{ℕ, ◌+◌}
 use lib.ListN.{length}
@@ -12,15 +12,14 @@ use Rattle.apu.specs.Held.{Whole}
 use Rattle.apu.proofs.Ranges.{new_held}
 use Rattle.apu.proofs.Floats.{new_floats}
 use Rattle.apu.specs.declared.Apu.{Apu}
-use Rattle.apu_clock.specs.Uses.{Use, step}
-use Rattle.apu_clock.specs.Demand3.{KeptConserved}
+use Rattle.apu_clock.specs.Uses.{step}
 use Rattle.apu_clock.proofs.Demand3.{kept_conserved}
 use Rattle.image.specs.Layout.{image_length, pulse1_base, pulse2_base, wave_base, noise_base}
 use Rattle.image.specs.Image.{tail_bytes, unit_bytes, unit_at, unit_fits}
-use Rattle.image.specs.Answers.{is_taken, taken_if, taken_of, fresh_dmg}
+use Rattle.image.specs.Answers.{is_taken, taken_if, taken_of}
 use Rattle.image.specs.declared.keep.Image.TheVariants.{Done}
 use Rattle.image.specs.declared.keep.Taken.{Taken}
-use Rattle.image_laws.specs.Images.{Bytewise, Written, with_frames, PartsFollow, Images}
+use Rattle.image_laws.specs.Images.{Bytewise, with_frames, PartsFollow, Images}
 use Rattle.image_laws.proofs.Numbers.{row_all}
 use Rattle.image_laws.proofs.Pulse.{pulse_group_long}
 use Rattle.image_laws.proofs.Wave.{wave_group_long}
@@ -58,7 +57,9 @@ module _ (u : Apu) (k : Whole u) where
 
   own_taken : is_taken (unit_bytes u) ≡ true
   unfolding is_taken
-  own_taken = is_yes _ (and_i (eqb (length (unit_bytes u)) image_length) (unit_fits (unit_bytes u) 0) (eq→eqb (unit_long u)) (unit-fits (unit_bytes u) 0 u k own))
+  own_taken =
+      is_yes _
+      (and_i (eqb (length (unit_bytes u)) image_length) (unit_fits (unit_bytes u) 0) (eq→eqb (unit_long u)) (unit-fits (unit_bytes u) 0 u k own))
 
   there_and_back : taken_of (unit_bytes u) ≡ record { answer = Done; apu = u }
   there_and_back = taken_up (unit_bytes u) own_taken ∙ ap (λ (v : Apu). record { answer = Done; apu = v }) (unit_back (unit_bytes u) 0 u k own)

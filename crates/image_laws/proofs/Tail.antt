@@ -1,24 +1,24 @@
 -- The unit's own fields as bytes: each stands at its own place of the row. Assumes nothing.
-use Prim.Native.Nat.{ℕ, ◌+◌, ◌^◌, ◌≤◌}
+use Prim.Native.Nat.{ℕ, ◌+◌, ◌≤◌}
 use mathlib.Core.Path.{◌≡◌, refl, sym, ◌∙◌, ap, subst}
 use mathlib.Core.List.{List, [], ◌∷◌}
 use lib.ListN.{get_or}
 use lib.Dec.{T, leb→le, lit≤, lit<}
-use lib.Ieee.{Float, binary64, to_bits, of_bits}
+use lib.Ieee.{binary64, to_bits, of_bits}
 use Rattle.clocks.specs.Calls.{K}
 use Rattle.clocks.specs.Counter.{Kept}
 use Rattle.clocks.specs.Position.{PositionHeld}
-use Rattle.image_fields.specs.Bytes.{row, bit_of, is_one, be8, eight_at}
-use Rattle.image_fields.specs.Codes.{position_of, position_test}
-use Rattle.image_fields.specs.Floats.{Measure, is_kept, counter_of}
+use Rattle.image_fields.specs.Bytes.{row, be8, eight_at}
+use Rattle.image_fields.specs.Codes.{position_test}
+use Rattle.image_fields.specs.Floats.{Measure, is_kept}
 use Rattle.apu.specs.declared.Apu.{Apu}
 use Rattle.image.specs.Layout.{model}
 use Rattle.image.specs.Image.{tail_bytes, tail_tests, tail_fits, unit_from}
 use Rattle.image_laws.specs.Images.{Bytewise}
-use Rattle.image_laws.proofs.Numbers.{bit_back, bit_same, passed, every, row_shift, first_of, first_row, nth, part, glue}
+use Rattle.image_laws.proofs.Numbers.{bit_same, passed, every, row_shift, first_row, nth, part, glue}
 use Rattle.image_laws.proofs.Numbers.{eight_back, eight_same, eight_lt}
-use Rattle.image_laws.proofs.Floats.{counter_lt, counter_same, counter_fits, counter_back, counter_held}
-use Rattle.image_laws.proofs.Codes.{position_back, position_same, position_held, position_fits}
+use Rattle.image_laws.proofs.Floats.{counter_lt, counter_same, counter_fits, counter_held}
+use Rattle.image_laws.proofs.Codes.{position_same, position_held, position_fits}
 use Rattle.image_laws.proofs.Parts.{within, flag_within}
 
 -- N at 44100 is K units of 2 ^ -48

@@ -19,7 +19,7 @@ use Rattle.image_parts.specs.Wave.{wave_group_bytes, wave_group_at, wave_group_t
 use Rattle.image_laws.specs.Images.{Bytewise}
 use Rattle.image_laws.proofs.Numbers.{bit_back, bit_same, passed, every, row_shift, row_all, first_of, first_row, nth, part, glue}
 use Rattle.image_laws.proofs.Numbers.{two_back, two_same}
-use Rattle.image_laws.proofs.Codes.{shift_held, shift_fits}
+use Rattle.image_laws.proofs.Codes.{shift_held, shift_fits_lem}
 use Rattle.image_laws.proofs.Parts.{within, flag_within, converter_back, converter_held, converter-fits}
 use Rattle.image_laws.proofs.Parts.{length_back, length_held, length-fits, converter_row, length_row, channel_row, group_same}
 
@@ -87,7 +87,7 @@ module _ (s : List ℕ) (at : ℕ) where
   pub wave-channel-fits : (w : WaveChannel) → channels.Held w → row s at 0 26 ≡ wave_channel_bytes w → T (wave_channel_fits s at)
   unfolding wave_channel_bytes ram_bytes
   wave-channel-fits w k h =
-      let own : T (shift_fits w.volume w.volume_shift) = shift_fits w.volume w.volume_shift k.volume k.shift in
+      let own : T (shift_fits w.volume w.volume_shift) = shift_fits_lem w.volume w.volume_shift k.volume k.shift in
       let shift : T (shift_fits (get_or s at 0) (get_or s (at + 1) 0)) = rw (first_of s at 25 _ h, nth 1 h) own in
       let frequency = within (two_back s (at + 2) w.frequency (part s at 2 2 26 _ refl h) (omega (arith, k.frequency))) k.frequency in
       let just = flag_within w.buffer_position_just_clocked (nth 21 h) in

@@ -1,23 +1,22 @@
 -- A whole image there and back: every part by its own laws, each from its base on. Assumes nothing.
 use Prim.Native.Nat.{ℕ, ◌+◌}
-use mathlib.Core.Path.{◌≡◌, refl, sym, ◌∙◌, ap, subst}
-use mathlib.Core.Bool.{Bool, true, false, ◌&&◌}
+use mathlib.Core.Path.{◌≡◌, refl, sym, ◌∙◌, ap}
 use mathlib.Core.List.{List, [], ◌∷◌}
 use lib.ListN.{length, get_or}
-use lib.Dec.{T, eqb, eqb→eq, lit<}
+use lib.Dec.{T, eqb→eq, lit<}
 use lib.Ieee.Fits.{eq→eqb}
 use Rattle.clocks.specs.Calls.{K}
-use Rattle.image_fields.specs.Bytes.{row, bit_of, is_one, be2, two_at}
+use Rattle.image_fields.specs.Bytes.{row, bit_of, be2, two_at}
 use Rattle.image_parts.specs.Parts.{converter_bytes, length_bytes, envelope_bytes}
 use Rattle.image_parts.specs.Pulse.{sweep_bytes, pulse_channel_bytes, pulse_group_bytes}
 use Rattle.image_parts.specs.Wave.{ram_bytes, wave_channel_bytes, wave_group_bytes}
 use Rattle.image_parts.specs.Noise.{noise_channel_bytes, noise_group_bytes}
-use Rattle.apu.specs.Held.{Held, FloatsHeld, Whole}
+use Rattle.apu.specs.Held.{Whole}
 use Rattle.apu.specs.declared.Apu.{Apu}
 use Rattle.image.specs.Layout.{version, rest_length, image_length, pulse1_base, pulse2_base, wave_base, wave_model, noise_base, tail_base, model}
 use Rattle.image.specs.Image.{tail_bytes, unit_bytes, unit_at, tail_tests, unit_tests, unit_fits}
 use Rattle.image_laws.specs.Images.{Bytewise}
-use Rattle.image_laws.proofs.Numbers.{bit_back, bit_same, passed, every, row_shift, row_all, first_of, first_row, nth, part, glue}
+use Rattle.image_laws.proofs.Numbers.{bit_back, bit_same, passed, every, row_shift, first_of, first_row, nth, part, glue}
 use Rattle.image_laws.proofs.Numbers.{two_back, two_same}
 use Rattle.image_laws.proofs.Floats.{counter_back}
 use Rattle.image_laws.proofs.Codes.{position_back}

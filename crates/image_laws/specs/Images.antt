@@ -12,7 +12,6 @@ use Rattle.image.specs.Layout.{rest_length, image_length, pulse1_base, pulse2_ba
 use Rattle.image.specs.Image.{head_bytes, tail_bytes, unit_bytes}
 use Rattle.image.specs.Answers.{is_taken, taken_of}
 use Rattle.image.specs.declared.keep.Image.TheVariants.{Done}
-use Rattle.image.specs.declared.keep.Taken.{Taken}
 
 -- a list of bytes: each is below 256
 abbrev pub Bytewise : List ℕ → Type 0

@@ -1,5 +1,5 @@
 -- The noise channel, and it with its converter and its length, as bytes. Assumes nothing.
-use Rattle.std.specs.Prelude.{ℕ, zero, suc, ◌+◌, ◌*◌, ◌/◌, ◌%◌, Bool, List, [], ◌∷◌, ◌++◌, get_or, eqb, leb}
+use Rattle.std.specs.Prelude.{ℕ, ◌+◌, Bool, List, [], ◌∷◌, ◌++◌, get_or, leb}
 use Rattle.image_fields.specs.Bytes.{bit_of, is_one, is_flag, be2, two_at, all_of}
 use Rattle.channel_noise.specs.declared.noise_channel.NoiseChannel.{NoiseChannel}
 use Rattle.channel_groups.specs.declared.noise_group.NoiseGroup.{NoiseGroup}

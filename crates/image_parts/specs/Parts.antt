@@ -1,7 +1,7 @@
 -- What the groups share, as bytes: "every field in the Rust structures' order .. numbers big-endian in their own width". Of each part `..Bytes` is what is
 -- written, `..At` what the bytes from a place on say, and `..Fits` whether "all fields lie in document 01's ranges". Quotes are request 2026-01's.
 -- Assumes nothing.
-use Rattle.std.specs.Prelude.{ℕ, zero, suc, ◌+◌, ◌*◌, ◌/◌, ◌%◌, Bool, List, [], ◌∷◌, ◌++◌, get_or, eqb, leb}
+use Rattle.std.specs.Prelude.{ℕ, ◌+◌, Bool, List, [], ◌∷◌, ◌++◌, get_or, eqb, leb}
 use Rattle.std.specs.Float.{binary32}
 use Rattle.std.specs.Float.Ieee.{to_bits}
 use Rattle.image_fields.specs.Bytes.{bit_of, is_one, is_flag, be2, be4, two_at, four_at, all_of}

@@ -1,5 +1,5 @@
 -- A sweep, a pulse channel ("without .. duty rows"), and it with its converter and its length, as bytes. Quotes are request 2026-01's. Assumes nothing.
-use Rattle.std.specs.Prelude.{ℕ, zero, suc, ◌+◌, ◌*◌, ◌/◌, ◌%◌, Bool, List, [], ◌∷◌, ◌++◌, get_or, eqb, leb}
+use Rattle.std.specs.Prelude.{ℕ, ◌+◌, Bool, List, [], ◌∷◌, ◌++◌, get_or, leb}
 use Rattle.image_fields.specs.Bytes.{bit_of, is_one, is_flag, be2, be8, two_at, eight_at, all_of}
 use Rattle.channel_pulse.specs.declared.sweep.Sweep.{Sweep}
 use Rattle.channel_pulse.specs.declared.pulse_channel.PulseChannel.{PulseChannel}

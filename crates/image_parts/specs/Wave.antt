@@ -1,6 +1,6 @@
 -- Wave RAM, the wave channel ("the wave shift is stored"), and it with its converter and its length, as bytes. Quotes are request 2026-01's.
 -- Assumes nothing.
-use Rattle.std.specs.Prelude.{ℕ, zero, suc, ◌+◌, ◌*◌, ◌/◌, ◌%◌, Bool, List, [], ◌∷◌, ◌++◌, get_or, eqb, leb}
+use Rattle.std.specs.Prelude.{ℕ, ◌+◌, Bool, List, [], ◌∷◌, ◌++◌, get_or, leb}
 use Rattle.image_fields.specs.Bytes.{bit_of, is_one, is_flag, be2, two_at, all_of, row}
 use Rattle.image_fields.specs.Codes.{shift_fits}
 use Rattle.channel_wave.specs.declared.wave_channel.WaveChannel.{WaveChannel}

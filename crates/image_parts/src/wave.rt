@@ -1,7 +1,8 @@
 // The wave channel as bytes, 26, and with its converter and its length before it, 37. The model byte after them is the unit's.
 ghost use Rattle.std.specs.Prelude.{◌≡◌, ◌+◌, ◌≤◌, length};
 ghost use Rattle.image_fields.specs.Bytes.{stored};
-ghost use Rattle.image_parts.specs.Wave.{ram_at, ram_bytes, wave_channel_at, wave_channel_bytes, wave_channel_fits, wave_group_at, wave_group_bytes, wave_group_fits};
+ghost use Rattle.image_parts.specs.Wave.{ram_at, ram_bytes, wave_channel_at, wave_channel_bytes, wave_channel_fits};
+ghost use Rattle.image_parts.specs.Wave.{wave_group_at, wave_group_bytes, wave_group_fits};
 
 use crate::converter::{converter_fits, put_converter, read_converter};
 use crate::length::{length_fits, put_length, read_length};

@@ -1,21 +1,17 @@
 -- The scan of two logs of one version in one: where nothing is wrong in the first, something is wrong in both exactly if it is in the second, and the sums are
 -- those of both. Assumes nothing.
-use Prim.Native.Nat.{ℕ, ◌+◌, ◌≤◌, ◌<◌}
+use Prim.Native.Nat.{ℕ, ◌≤◌, ◌<◌}
 use mathlib.Core.Path.{◌≡◌, refl, sym, ◌∙◌, ap}
 use mathlib.Core.List.{List, ◌++◌}
-use mathlib.Core.Bool.{Bool, true, false, not, ◌||◌}
+use mathlib.Core.Bool.{true, false}
 use native.Mathlib.Omega.{arith}
 use borrow.Author.Tests.{le-ltb}
-use lib.ListN.{length, get_or, drop, length-append, get_or-append}
-use lib.Dec.{eqb, ltb}
-use Rattle.ground.specs.Pick.{pick}
-use Rattle.log_records.specs.declared.judge.Record.{Record}
+use lib.ListN.{length, drop, length-append, get_or-append}
 use Rattle.log_records.specs.declared.judge.Record.TheVariants.{Write, Read, Clock, Pcm, Wrong}
 use Rattle.log_records.specs.Records.{Parsed, done, short, item, records_from, version_of, records_of, listed}
 use Rattle.log_records.proofs.Joining.{placeless, joined, whole, records_join, version_join, listed_join}
 use Rattle.log_scan.specs.declared.scan.Mark.{Mark}
 use Rattle.log_scan.specs.declared.scan.Mark.TheVariants.{Clear, At}
-use Rattle.log_scan.specs.declared.scan.Sums.{Sums}
 use Rattle.log_scan.specs.Scan.{or_mark, wrong_mark, wrong_in, summed, added}
 use Rattle.log_scan.specs.Answers.{is_place, bad_start, has_wrong}
 use Rattle.log_scan.proofs.Counting.{summed_append}

@@ -14,7 +14,7 @@ use log_items::items::FRAME_BYTES;
 use log_records::cut::version_of;
 
 // What playing a log answers: what was done, or why it was refused.
-#[derive(Drop)]
+#[derive(Clone, Copy)]
 pub enum LogAnswer {
     Done {
         written: u64,
@@ -87,7 +87,8 @@ pub fn scan_from(log: &[u8], meter: Meter) -> LogAnswer
 // The same in an output of so many bytes: refusal 6 comes last.
 pub fn within(answer: LogAnswer, room: usize) -> LogAnswer
     ensures value { result ≡ within_room room answer }
-    ensures result_value { (refusal_of result ≡ pick (is_done answer && ltb room (returned_of answer)) 6 (refusal_of answer)) × (returned_of result ≡ returned_of answer) }
+    ensures result_value { (refusal_of result ≡ pick (is_done answer && ltb room (returned_of answer)) 6 (refusal_of answer))
+        × (returned_of result ≡ returned_of answer) }
 {
     match answer {
         LogAnswer::Done {

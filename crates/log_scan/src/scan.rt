@@ -12,14 +12,14 @@ use log_records::cut::{Cut, cut_at};
 use log_records::judge::{Record, clocks_at, judge};
 
 // A place in the log, or none.
-#[derive(Drop)]
+#[derive(Clone, Copy)]
 pub enum Mark {
     Clear,
     At { place: usize },
 }
 
 // Over some records: how many they are, the clock calls that they ask for, the half-clocks of those, and the bytes that reads make.
-#[derive(Drop)]
+#[derive(Clone, Copy)]
 pub struct Sums {
     pub records: u64,
     pub calls: u64,
@@ -28,7 +28,7 @@ pub struct Sums {
 }
 
 // The place of the first wrong record, and the sums.
-#[derive(Drop)]
+#[derive(Clone, Copy)]
 pub struct Found {
     pub wrong: Mark,
     pub sums: Sums,

@@ -70,7 +70,8 @@ abbrev log_of_one : Record → List ℕ
 log_of_one r = 2 ∷ 1 ∷ record_bytes r
 
 -- its body ends where the log does
-alone : (s : List ℕ) (n : ℕ) (r : Record) → cut_at s 2 ≡ Body n → cut_at s (2 + 2 + n) ≡ End → judge_of 2 (body_at s 2 n) ≡ r → records_from 2 s 2 ≡ item 2 r done
+alone : (s : List ℕ) (n : ℕ) (r : Record) → cut_at s 2 ≡ Body n → cut_at s (2 + 2 + n) ≡ End → judge_of 2 (body_at s 2 n) ≡ r
+    → records_from 2 s 2 ≡ item 2 r done
 alone s n r body end says = at_body 2 s 2 n body ∙ ap₂ (λ (x : Record) (p : Parsed). item 2 x p) says (at_end 2 s (2 + 2 + n) end)
 
 one : (r : Record) → Right r → records_of (log_of_one r) ≡ item 2 r done

@@ -14,7 +14,7 @@ abbrev pub sample_after : ℕ → Command → ℕ
 sample_after s (Store register value) = s
 sample_after s (Wait samples) = s + samples
 
--- ---- for the code alone, which keeps no count that grows with the file (that it counts the same: `moved_at` and `calls_at` of proofs/Counted.antt)
+-- ---- for the code alone, which keeps no count that grows with the file (that it counts the same: `moved_at` and `calls-at` of proofs/Counted.antt)
 
 -- what it keeps at sample s: the 11,025ths of a call that are left over, and the calls modulo 16,384
 abbrev pub clockwork_at : ℕ → Clockwork

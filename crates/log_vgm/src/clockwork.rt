@@ -5,14 +5,14 @@ ghost use Rattle.log_vgm.specs.Clockwork.{starting_at, parts_in, calls_in, moved
 use crate::command::Command;
 
 // Where an import is: what the samples so far leave of a call, in 11,025ths of one, and the calls so far, of which 16,384 bring divider and phase round.
-#[derive(Drop)]
+#[derive(Clone, Copy)]
 pub struct Clockwork {
     pub rest: u32,
     pub calls: u32,
 }
 
 // That, and the place of the next command: all that going on from there takes.
-#[derive(Drop)]
+#[derive(Clone, Copy)]
 pub struct Walk {
     pub at: usize,
     pub clockwork: Clockwork,

@@ -5,14 +5,14 @@ ghost use Rattle.log_vgm.specs.Commands.{store_of, long_of, waits_of, short_of, 
 use crate::bytes::two;
 
 // A value for the register so many above FF10, or a wait of so many samples at 44,100 a second.
-#[derive(Drop)]
+#[derive(Clone, Copy)]
 pub enum Command {
     Store { register: u8, value: u8 },
     Wait { samples: u16 },
 }
 
 // What stands at a place: a command with the bytes after its first, the end, or what is not taken.
-#[derive(Drop)]
+#[derive(Clone, Copy)]
 pub enum Next {
     Taken { command: Command, more: usize },
     End,

@@ -9,7 +9,7 @@ use crate::scan::{Scanned, scan};
 use crate::write::{OPENING, put_log};
 
 // The bytes written, or why the file was refused.
-#[derive(Drop)]
+#[derive(Clone, Copy)]
 pub enum Imported {
     Done { written: u64 },
     BadHeader,

@@ -1,4 +1,6 @@
 // A VGM file as an access log of version 2: its header, its commands, the records that they become, and the log's bytes.
+#![tactic(auto)]
+
 mod bytes; // bytes.rt: numbers in a VGM file
 mod clockwork; // clockwork.rt: the clock calls that samples become
 mod command; // command.rt: the command at a place

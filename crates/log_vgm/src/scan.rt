@@ -8,7 +8,7 @@ use crate::clockwork::{Clockwork, Walk, calls_in, walked};
 use crate::command::{Command, Next, next_at};
 
 // The bytes of a file's log, 65,537 for more than a log may have, or the place where the scan stopped.
-#[derive(Drop)]
+#[derive(Clone, Copy)]
 pub enum Scanned {
     Good { bytes: u32 },
     Stopped { place: usize },

@@ -4,7 +4,6 @@ use native.Mathlib.Omega.{arith}
 use native.Mathlib.Numerals.{add-one, add-two, add-three, add-four, add_five}
 use mathlib.Core.Path.{◌≡◌}
 use Prim.Native.Nat.{◌+◌, ◌/◌, ◌%◌}
-use mathlib.Core.List.{◌∷◌}
 use lib.ListN.{length-set}
 use Rattle.log_vgm.proofs.write.put_write.Statement.{statement}
 use Rattle.log_vgm.proofs.write.put_write.Tie as tie

@@ -1,0 +1,115 @@
+-- At every turn what was found, joined to what the rest of the log has, is what the whole log has; the place moves on by two bytes and more. Assumes nothing.
+use native.Mathlib.Omega.{arith}
+use Prim.Native.Nat.{◌+◌}
+use mathlib.Core.Path.{sym, ◌∙◌}
+use native.Mathlib.Nat.{add-sub_cancel_left}
+use Rattle.log_records.proofs.Framing.{body_fits, at_body}
+use Rattle.log_scan.proofs.Counting.{good-both, begun, ended, cut_short, turn, fits, fits_none}
+use Rattle.log_scan.proofs.scan.scan_list.Goals as goal
+use Rattle.log_scan.proofs.scan.scan_list.Invariants.{found}
+
+pub loop-at-init : goal.loop-at-init
+loop-at-init c =
+    let none = c.none-found in
+    rw none.ensures (begun _ _)
+
+-- ---- a clock record
+pub join_good-found-requires : goal.join_good-found-requires
+join_good-found-requires c =
+    let one-clock = c.one_clock in
+    let if1 = c.if-clocks in
+    let clocks-at = c.clocks_at-clocks in
+    let loop = c.loop-at in
+    let stands = found clocks-at.ensures if1.true in
+    rw one-clock.ensures (fits loop.invariant _ _ stands.is c.requires)
+
+pub loop-at-smaller-then-clocks : goal.loop-at-smaller-then-clocks
+loop-at-smaller-then-clocks c =
+    let if1 = c.if-clocks in
+    let clocks-at = c.clocks_at-clocks in
+    let stands = found clocks-at.ensures if1.true in
+    omega (arith, stands.fits, stands.further, stands.ends)
+
+pub loop-at-preserved-then-clocks : goal.loop-at-preserved-then-clocks
+loop-at-preserved-then-clocks c =
+    let join-good = c.join_good-found in
+    let one-clock = c.one_clock in
+    let if1 = c.if-clocks in
+    let clocks-at = c.clocks_at-clocks in
+    let loop = c.loop-at in
+    let stands = found clocks-at.ensures if1.true in
+    let good = join-good.ensures ∙ good-both loop.found one-clock.result (rw one-clock.ensures) in
+    rw (good, one-clock.ensures, stands.ends) (turn loop.invariant _ _ stands.is stands.fits)
+
+-- ---- the end, or a record cut short
+pub returns-in-End : goal.returns-in-End
+returns-in-End c =
+    let cut_at = c.cut_at in
+    let loop = c.loop-at in
+    ended loop.invariant (sym cut_at.ensures ∙ c.in-End.is)
+
+pub join-requires : goal.join-requires
+join-requires c =
+    let none2 = c.none-end in
+    let loop = c.loop-at in
+    rw none2.ensures (fits_none loop.invariant _ c.requires)
+
+pub returns-in-Short : goal.returns-in-Short
+returns-in-Short c =
+    let join = c.join in
+    let none2 = c.none-end in
+    let cut_at = c.cut_at in
+    let loop = c.loop-at in
+    join.ensures ∙ rw none2.ensures (cut_short loop.invariant (sym cut_at.ensures ∙ c.in-Short.is))
+
+-- ---- another record
+pub overflow_add-from : goal.overflow_add-from
+overflow_add-from c =
+    let cut_at = c.cut_at in
+    let loop = c.loop-at in
+    let h = body_fits _ loop.at _ (sym cut_at.ensures ∙ c.in-Body.is) in omega arith
+
+pub overflow_add-to : goal.overflow_add-to
+overflow_add-to c =
+    let cut_at = c.cut_at in
+    let loop = c.loop-at in
+    let h = body_fits _ loop.at _ (sym cut_at.ensures ∙ c.in-Body.is) in omega arith
+
+pub slice_bounds-scan_record-count : goal.slice_bounds-scan_record-count
+slice_bounds-scan_record-count c = omega arith
+
+pub slice_bounds-scan_record-start : goal.slice_bounds-scan_record-start
+slice_bounds-scan_record-start c = omega arith
+
+pub slice_bounds-scan_record-end : goal.slice_bounds-scan_record-end
+slice_bounds-scan_record-end c =
+    let cut_at = c.cut_at in
+    let loop = c.loop-at in
+    let h = body_fits _ loop.at _ (sym cut_at.ensures ∙ c.in-Body.is) in omega arith
+
+pub join-found-requires : goal.join-found-requires
+join-found-requires c =
+    let scan-record = c.scan_record-more in
+    let cut_at = c.cut_at in
+    let loop = c.loop-at in
+    let n = c.in-Body.len in
+    let is = at_body _ _ loop.at n (sym cut_at.ensures ∙ c.in-Body.is) in
+    let more = rw (add-sub_cancel_left (loop.at + 2) n) at scan-record.ensures in
+    rw more (fits loop.invariant _ _ is c.requires)
+
+pub loop-at-smaller : goal.loop-at-smaller
+loop-at-smaller c =
+    let cut_at = c.cut_at in
+    let loop = c.loop-at in
+    let h = body_fits _ loop.at _ (sym cut_at.ensures ∙ c.in-Body.is) in omega arith
+
+pub loop-at-preserved : goal.loop-at-preserved
+loop-at-preserved c =
+    let join2 = c.join-found in
+    let scan-record = c.scan_record-more in
+    let cut_at = c.cut_at in
+    let loop = c.loop-at in
+    let n = c.in-Body.len in
+    let cut = sym cut_at.ensures ∙ c.in-Body.is in
+    let more = rw (add-sub_cancel_left (loop.at + 2) n) at scan-record.ensures in
+    rw (join2.ensures, more) (turn loop.invariant _ _ (at_body _ _ loop.at n cut) (body_fits _ loop.at n cut))

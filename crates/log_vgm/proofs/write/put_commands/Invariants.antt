@@ -1,0 +1,11 @@
+-- At every turn the bytes put so far, with those of the commands to come, are all of the log's; the place moves on by one byte and more. Assumes nothing.
+use Prim.Native.Nat.{◌-◌}
+use lib.ListN.{length}
+use Rattle.log_vgm.proofs.Putting.{Putting}
+use Rattle.log_vgm.proofs.write.put_commands.Given as goal
+
+abbrev pub invariant-loop-command : goal.invariant-loop-command
+invariant-loop-command l = Putting l.vgm l.initial.walk l.initial.out l.place l.out l.walk l.at
+
+abbrev pub decreases-loop-command : goal.decreases-loop-command
+decreases-loop-command l = length l.vgm - l.walk.at
