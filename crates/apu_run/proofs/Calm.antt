@@ -10,7 +10,6 @@ use borrow.Author.Tests.{eqb-true, ltb-true, ltb-false}
 use lib.Dec.{eqb, ltb}
 use Rattle.ground.specs.Pick.{pick}
 use Rattle.ground.specs.Iterate.{iterate}
-use Rattle.ground.specs.declared.timer.CountedDown.{CountedDown}
 use Rattle.ground.proofs.Timers.{run_still, run_near}
 use Rattle.channel_pulse.specs.Pulse as pulse
 use Rattle.channel_pulse.specs.Phase.{PulsePhaseHeld, pulse_phase_clocked}
@@ -28,7 +27,6 @@ use Rattle.apu_run.specs.Phases.{PhasesHeld, least, phases_clocked}
 use Rattle.apu_run.specs.FrameSettings.{pulse_output, noise_output, levels_of, calm_by, pulse_calm, noise_calm, calm_of}
 use Rattle.apu_run.specs.declared.phases.Phases.{Phases}
 use Rattle.apu_run.specs.declared.phases.Settings.{Settings}
-use Rattle.apu_run.specs.declared.levels.Levels.{Levels}
 use Rattle.apu_run.specs.declared.frame_settings.FrameSettings.{FrameSettings}
 use Rattle.apu_run.proofs.Moves.{least_first, least_second, moves, stands}
 

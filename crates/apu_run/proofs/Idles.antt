@@ -10,7 +10,7 @@ use Rattle.ground.specs.Iterate.{iterate}
 use Rattle.ground.proofs.Cases.{both_ways}
 use Rattle.ground.proofs.Timers.{pick_ap, iterate_part, iterate_add, iterate_holds}
 use Rattle.clocks.specs.Counter.{every_at, tick_by}
-use Rattle.clocks.specs.Position.{PositionHeld, next_of}
+use Rattle.clocks.specs.Position.{next_of}
 use Rattle.clocks.specs.declared.sample_counter.Ticked.{Ticked}
 use Rattle.channel_groups.specs.PulseGroups as pulse
 use Rattle.channel_groups.specs.WaveGroups as wave

@@ -16,7 +16,7 @@ use clocks::sample_counter::half_clocks_of;
 use log_records::divider::{Divider, divider_at};
 
 // The unit, and the place of the output's next byte.
-#[derive(Drop)]
+#[derive(Clone, Copy)]
 pub struct Play {
     pub apu: Apu,
     pub at: usize,
@@ -55,7 +55,7 @@ pub fn same_bit(double: bool, divider: Divider, i: u32, count: u32) -> u32
 
 // How calls that see one divider bit meet the unit: the half-clocks left, the working clocks, and what the first of those does to the stored bit.
 // Numbers only, so that the unit stays where it is.
-#[derive(Drop)]
+#[derive(Clone, Copy)]
 pub struct Met {
     pub half: u8,
     pub working: u32,
@@ -87,7 +87,7 @@ pub fn settle(p: Play, owed: u32, out: &mut [u8]) -> Play
     requires apu_in_bounds { p.at + length (ran_of owed p.apu).bytes ≤ length out.old }
     ensures value { result ≡ further p (ran_of owed p.apu).apu (ran_of owed p.apu).bytes }
     ensures out_after { out.new ≡ sets out.old p.at (ran_of owed p.apu).bytes }
-    ensures held_2 { Held result.apu × FloatsHeld result.apu }
+    ensures still_held { Held result.apu × FloatsHeld result.apu }
 {
     let unit = p.apu;
     let list = reloads();
@@ -108,7 +108,7 @@ pub fn fall(p: Play, owed: u32, out: &mut [u8]) -> Play
     requires apu_in_bounds { p.at + length (ran_of owed p.apu).bytes ≤ length out.old }
     ensures value { result ≡ further p (fallen (ran_of owed p.apu).apu) (ran_of owed p.apu).bytes }
     ensures out_after { out.new ≡ sets out.old p.at (ran_of owed p.apu).bytes }
-    ensures held_2 { Held result.apu × FloatsHeld result.apu }
+    ensures still_held { Held result.apu × FloatsHeld result.apu }
 {
     let q = settle(p, owed, out);
     let mut apu = q.apu;
@@ -135,7 +135,7 @@ pub fn play_clocks(
     requires apu_in_bounds { p.at + length (clocks_bytes double divider from (to - from) p.apu) ≤ length out.old }
     ensures value { result ≡ further p (after_clocks double divider from (to - from) p.apu) (clocks_bytes double divider from (to - from) p.apu) }
     ensures out_after { out.new ≡ sets out.old p.at (clocks_bytes double divider from (to - from) p.apu) }
-    ensures held_2 { Held result.apu × FloatsHeld result.apu }
+    ensures still_held { Held result.apu × FloatsHeld result.apu }
 {
     let mut apu = p.apu;
     let mut place = p.at;

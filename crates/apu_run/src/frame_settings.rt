@@ -7,7 +7,7 @@ use channel_pulse::pulse_channel::duty_row;
 use frame::mixing::selected;
 
 // A channel's way from its converter to the two sides: a muted channel's converter stands still, and it goes to neither.
-#[derive(Drop)]
+#[derive(Clone, Copy)]
 pub struct Route {
     pub muted: bool,
     pub rightward: bool,
@@ -15,7 +15,7 @@ pub struct Route {
 }
 
 // The duty rows, the channels' volumes and the wave's shift, wide, so that a frame masks nothing; the routes; each side's factor, its volume and 1.
-#[derive(Drop)]
+#[derive(Clone, Copy)]
 pub struct FrameSettings {
     pub pulse1_row: u32,
     pub pulse1_volume: u32,

@@ -12,7 +12,7 @@ use frame::converter::Converter;
 use frame::mixing::{Mix, Sides, Voiced, mix_of};
 
 // The converters after a frame, and the frame's ten numbers.
-#[derive(Drop)]
+#[derive(Clone, Copy)]
 pub struct FrameStep {
     pub converters: Converters,
     pub mix: Mix,

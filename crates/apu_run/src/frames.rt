@@ -17,7 +17,7 @@ use clocks::distance::{counter_of, later, past_frame, units_of, until};
 use log_items::items::{FRAME_BYTES, put_mix, put_silence};
 
 // What a run moved, to be put back into its unit, and the place after its bytes. (The unit itself, handed back whole, would be copied twice.)
-#[derive(Drop)]
+#[derive(Clone, Copy)]
 pub struct Parts {
     pub phases: Phases,
     pub converters: Converters,

@@ -15,7 +15,7 @@ use channel_noise::phase::NoisePhase;
 use channel_pulse::phase::PulsePhase;
 
 // Each channel's output by 15.
-#[derive(Drop)]
+#[derive(Clone, Copy)]
 pub struct Levels {
     pub pulse1: f32,
     pub pulse2: f32,

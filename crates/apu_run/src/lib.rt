@@ -1,5 +1,7 @@
 // Many clock calls at once: calls are reckoned in numbers and their working clocks owed; a run plays what is owed from frame to frame, between which each
 // channel goes its clocks at once.
+#![tactic(auto)]
+
 pub mod phases; // phases.rt: what the clocks move, taken out of the unit and put back
 pub mod frames; // frames.rt: from frame to frame
 mod frame_settings; // frame_settings.rt: what the settings give to every frame of a run

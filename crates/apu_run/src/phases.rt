@@ -23,7 +23,7 @@ use channel_wave::wave_channel::WaveChannel;
 use frame::converter::Converter;
 
 // What a run leaves as it is. (Its channels' own positions and timers are not read.)
-#[derive(Drop)]
+#[derive(Clone, Copy)]
 pub struct Settings {
     pub pulse1: PulseChannel,
     pub pulse2: PulseChannel,
@@ -37,7 +37,7 @@ pub struct Settings {
 }
 
 // What moves with each clock.
-#[derive(Drop)]
+#[derive(Clone, Copy)]
 pub struct Phases {
     pub pulse1: PulsePhase,
     pub pulse2: PulsePhase,
@@ -46,7 +46,7 @@ pub struct Phases {
 }
 
 // What moves with each clock, without the noise.
-#[derive(Drop)]
+#[derive(Clone, Copy)]
 struct TonePhases {
     pulse1: PulsePhase,
     pulse2: PulsePhase,
@@ -54,7 +54,7 @@ struct TonePhases {
 }
 
 // What moves with each frame.
-#[derive(Drop)]
+#[derive(Clone, Copy)]
 pub struct Converters {
     pub pulse1: Converter,
     pub pulse2: Converter,

@@ -1,14 +1,14 @@
 -- A chain is its logs in one: what is kept is the image of the unit after the first log, an image gives back the unit, and a row of records may be played in
 -- two parts. Assumes nothing.
 use Prim.Native.Nat.{ℕ, ◌+◌, ◌≤◌}
-use mathlib.Core.Path.{◌≡◌, refl, sym, ◌∙◌, ap, ap₂, subst}
+use mathlib.Core.Path.{◌≡◌, refl, sym, ◌∙◌, ap, ap₂}
 use mathlib.Core.Bool.{Bool, true, false, ◌&&◌}
-use mathlib.Core.List.{List, [], ◌++◌, append-nil}
+use mathlib.Core.List.{List, ◌++◌, append-nil}
 use native.Mathlib.Nat.{zero-add, le_of_eq}
 use native.Mathlib.Omega.{arith}
-use lib.ListN.{length, get_or, drop, drop_of_length-le, length-append}
+use lib.ListN.{length, get_or, drop_of_length-le, length-append}
 use lib.Dec.{ltb}
-use lib.Seq.{sets, sets-eq}
+use lib.Seq.{sets-eq}
 use borrow.Author.Tests.{le-ltb}
 use Rattle.ground.specs.Pick.{pick}
 use Rattle.ground.proofs.Cases.{pick_holds}
@@ -17,7 +17,7 @@ use Rattle.apu.specs.declared.Apu.{Apu}
 use Rattle.log_records.specs.Records.{version_of, records_of, listed}
 use Rattle.log_records.specs.declared.judge.Record.{Record}
 use Rattle.log_scan.specs.Scan.{wrong_in, summed, added}
-use Rattle.log_scan.specs.Answers.{is_done, too_long, done_as, or_wrong, scanned_as, within_room}
+use Rattle.log_scan.specs.Answers.{is_done, done_as, or_wrong, scanned_as, within_room}
 use Rattle.log_scan.specs.declared.answer.LogAnswer.{LogAnswer}
 use Rattle.log_scan.specs.declared.answer.LogAnswer.TheVariants.{Done, TooLong, BadStart, WrongRecord, TooShort}
 use Rattle.log_scan.specs.declared.scan.Sums.{Sums}
@@ -27,7 +27,7 @@ use Rattle.log_scan.proofs.Counting.{summed_append}
 use Rattle.log_scan.proofs.Done.{done_clear}
 use Rattle.log_player.specs.Playing.{unit_of_start, output, unit_at_end}
 use Rattle.log_player.specs.Frames.{made_by}
-use Rattle.log_player.specs.Logs.{answer_on, answer_of, bytes_of_log}
+use Rattle.log_player.specs.Logs.{answer_on, answer_of}
 use Rattle.log_player.proofs.Appending.{unit_at_end_append, output_append, made_by_append}
 use Rattle.log_player.proofs.Appending.{unit_at_end_held, listed_bytes, output_join, answer_join, unit_at_end_join}
 use Rattle.log_player.proofs.Frames.{start_ready}
@@ -37,7 +37,7 @@ use Rattle.image.specs.Image.{unit_bytes}
 use Rattle.image.specs.Answers.{saved_in, is_taken, taken_of}
 use Rattle.image.specs.declared.keep.Image.TheVariants as image
 use Rattle.image.specs.declared.keep.Taken.{Taken}
-use Rattle.image_laws.specs.Images.{Bytewise, Written}
+use Rattle.image_laws.specs.Images.{Bytewise}
 use Rattle.image_laws.proofs.Hold.{images}
 use Rattle.image_laws.proofs.Whole.{unit_long}
 use Rattle.image_player.specs.Playing.{answer_kept, answer_from, after_kept, after_from}

@@ -1,6 +1,6 @@
 -- A recording of days is a chain of logs, each played on the unit that the one before it left, kept as an image between them: what that comes to.
 -- Assumes nothing.
-use Rattle.std.specs.Prelude.{ℕ, ◌+◌, ◌≤◌, ◌<◌, ◌≡◌, List, ◌++◌, length, get_or, drop}
+use Rattle.std.specs.Prelude.{ℕ, ◌+◌, ◌≤◌, ◌≡◌, List, ◌++◌, length, get_or, drop}
 use Rattle.apu.specs.declared.Apu.{Apu}
 use Rattle.log_records.specs.Records.{version_of, listed}
 use Rattle.log_records.specs.declared.judge.Record.{Record}

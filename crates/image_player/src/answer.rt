@@ -5,7 +5,7 @@ ghost use Rattle.image_player.specs.Answers.{refusal_of, returned_of, counts_aft
 use log_scan::answer as log_answer;
 use log_scan::answer::LogAnswer;
 
-#[derive(Drop)]
+#[derive(Clone, Copy)]
 pub enum ImageAnswer {
     WrongImage,
     Log { answer: LogAnswer },

@@ -7,7 +7,7 @@ use image::layout::IMAGE_BYTES;
 use log_player::play::start;
 
 // What making one answers: the bytes written, refusal 4 for a start byte above 3, or refusal 8 with the bytes needed, tried in that order.
-#[derive(Drop)]
+#[derive(Clone, Copy)]
 pub enum Made {
     Done { written: u64 },
     BadStart,

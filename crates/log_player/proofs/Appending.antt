@@ -153,7 +153,8 @@ module _ (a : Apu) (s t : List ℕ) (same : version_of t ≡ version_of s) (room
       ap (within_room wide)
       (passes short clear _ _
       ∙ ap₂ (λ (n f : ℕ). done_as n f (summed (listed (s ++ drop 2 t)))) bytes made_by_join
-      ∙ ap (done_as (length (output (listed s) a) + length (output (listed t) b)) (made_by (listed s) a + made_by (listed t) b)) (sums_join s t good same whole))
+      ∙ ap (done_as (length (output (listed s) a) + length (output (listed t) b)) (made_by (listed s) a + made_by (listed t) b))
+      (sums_join s t good same whole))
 
   pub unit_at_end_join : unit_at_end (listed (s ++ drop 2 t)) a ≡ unit_at_end (listed t) (unit_at_end (listed s) a)
   unit_at_end_join = ap (λ (l : List Record). unit_at_end l a) both ∙ unit_at_end_append (listed s) (listed t) a

@@ -1,18 +1,18 @@
 -- A body by itself: it is a write to one group exactly if it has four bytes, the first of them 01, and an address of one group. Assumes nothing.
 use Prim.Native.Nat.{ℕ, ◌≤◌, ◌<◌}
-use mathlib.Core.Path.{◌≡◌, refl, sym, ◌∙◌, ap}
+use mathlib.Core.Path.{◌≡◌, refl, sym}
 use mathlib.Core.Bool.{Bool, true, false, ◌&&◌}
 use mathlib.Core.List.{List}
 use native.Mathlib.Omega.{arith}
 use borrow.Author.Tests.{eqb-true, eqb-false, ne_eqb, lt-ltb, le-ltb, leb-false}
-use lib.Dec.{eqb, leb, ltb}
+use lib.Dec.{eqb, leb}
 use lib.ListN.{length, get_or}
 use Rattle.ground.specs.Pick.{pick}
 use Rattle.ground.specs.Num.{is_sound}
 use Rattle.ground.proofs.Cases.{both_ways, pick_true, pick_false, and_left, and_right}
 use Rattle.log_records.specs.Judge.{word, write_of, read_of, clock_of, pcm_of, judge_of}
 use Rattle.log_records.specs.declared.judge.Record.{Record}
-use Rattle.log_records.specs.declared.judge.Record.TheVariants.{Write, Read, Clock, Pcm, Wrong}
+use Rattle.log_records.specs.declared.judge.Record.TheVariants.{Write, Wrong}
 use Rattle.log_player.specs.Bodies.{no_write, group_at, group_write_of, group_write_in}
 
 -- a wrong address is no group's

@@ -2,11 +2,9 @@
 use Prim.Native.Nat.{ℕ, zero, suc, ◌+◌, ◌/◌, ◌%◌, ◌≤◌, ◌<◌}
 use mathlib.Core.Path.{◌≡◌, refl, sym, ◌∙◌, ap}
 use mathlib.Core.Bool.{Bool, true, false}
-use mathlib.Core.List.{List, []}
 use native.Mathlib.Nat.{zero-add, add-zero, add-suc}
 use native.Mathlib.Omega.{arith}
 use Rattle.ground.specs.Pick.{pick}
-use Rattle.apu.specs.declared.Apu.{Apu}
 use Rattle.apu_run.specs.Working.{Take}
 use Rattle.apu_run.proofs.Rows.{call_on, rows, rows_none, rows_first, rows_split}
 use Rattle.apu_run.proofs.Turns.{none}

@@ -7,7 +7,7 @@ use log_records::cut::{Cut, cut_at};
 use log_records::judge::word_at;
 
 // Whether a whole record is there, and the place after it.
-#[derive(Drop)]
+#[derive(Clone, Copy)]
 pub struct Part {
     pub there: bool,
     pub end: usize,
@@ -33,7 +33,7 @@ pub fn part_at(log: &[u8], at: usize) -> Part
 }
 
 // A write to a register of one group: the group is 1 pulse 1, 2 pulse 2, 3 wave, 4 noise, or 0 for no such write.
-#[derive(Drop)]
+#[derive(Clone, Copy)]
 pub struct GroupWrite {
     pub group: u8,
     pub offset: u16,

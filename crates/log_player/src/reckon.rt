@@ -11,7 +11,7 @@ use log_records::divider::divider_at;
 use log_records::judge::clocks_at;
 
 // Where a player stands in a log, and what it owes there: `owed` working clocks, then the sequencer's step if the divider's bit `fell`, then `more` of them.
-#[derive(Drop)]
+#[derive(Clone, Copy)]
 pub struct Reckoned {
     pub at: usize, // the place of the next record
     pub call: u32, // the calls of it that are past

@@ -12,7 +12,8 @@ use Rattle.apu_run.proofs.levels.whole.Tie as tie
 
 -- 4B000000 is the pattern of 2^23, and the next ones are those of the numbers after it
 whole_is : (n : ℕ) → n ≤ 15
-    → T (not (nan_bits binary32 (0x4B00_0000 + n))) × (sub binary32 (of_bits binary32 (0x4B00_0000 + n)) (of_bits binary32 0x4B00_0000) ≡ of_int binary32 (pos n))
+    → T (not (nan_bits binary32 (0x4B00_0000 + n)))
+    × (sub binary32 (of_bits binary32 (0x4B00_0000 + n)) (of_bits binary32 0x4B00_0000) ≡ of_int binary32 (pos n))
 unfolding nan_bits of_bits of_int sub
 whole_is zero h = (tt, refl)
 whole_is (suc zero) h = (tt, refl)
