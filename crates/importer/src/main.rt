@@ -1,5 +1,7 @@
 // The import program: reads a VGM file from standard input and writes its access log to standard output, and nothing else there; or REFUSED with a refusal's
 // number and the number that it returns to standard error. TOO LONG there is a file of more bytes than it takes.
+#![tactic(auto)]
+
 ghost use Rattle.std.specs.Prelude.{◌≡◌, length};
 
 use log_vgm::import::{Imported, import_log, refusal, returned};

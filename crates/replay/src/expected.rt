@@ -4,7 +4,7 @@ use crate::compare::{byte, word};
 use log_scan::answer::{LogAnswer, refusal, returned};
 
 // How to play a log, and what it must be answered.
-#[derive(Drop)]
+#[derive(Clone, Copy)]
 pub struct Case {
     pub kind: u8,
     pub refused: u8,

@@ -3,6 +3,8 @@
 // Kinds 3 and 4 are those of a VGM file in place of a log, which is imported; its log is the output.
 // A log that is not refused is played twice: by `play_log`, and on the unit itself, call by call, by `play_plainly`.
 // The first family has the answers of `host/make-answers`, from the rules; the others have the original's, by `host/record`.
+#![tactic(auto)]
+
 mod compare;
 mod expected;
 mod imported;
@@ -16,7 +18,7 @@ use log_scan::answer::LogAnswer;
 use plain::{NOWHERE, play_plainly};
 
 // Logs, bytes and differing logs of the family so far and of those before it; whether there is more to read.
-#[derive(Drop)]
+#[derive(Clone, Copy)]
 struct Tally {
     logs: u64,
     bytes: u64,

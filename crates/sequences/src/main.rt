@@ -1,5 +1,7 @@
 // Plays sequences of calls on the unit itself and prints what it answers: reads, PCM reads and the patterns of samples. What it prints was
 // compared with the Rust's answers to the same sequences (docs/EVIDENCE.md). Commands come from standard input, five bytes each.
+#![tactic(auto)]
+
 mod text;
 
 ghost use Rattle.std.specs.Prelude.{◌+◌, ◌<◌};
