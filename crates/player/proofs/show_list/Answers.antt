@@ -4,57 +4,39 @@ use Prim.Native.Nat.{◌+◌}
 use mathlib.Core.Path.{sym, ◌∙◌}
 use native.Mathlib.Nat.{add-sub_cancel_left}
 use Rattle.log_records.proofs.Framing.{body_fits, list_end, list_short, list_body}
-use Rattle.player.proofs.Showing.{showing, show_on, shown_all}
+use Rattle.player.proofs.Showing.{show_on, shown_all}
 use Rattle.player.proofs.show_list.Goals as goal
 
-pub loop-q-init : goal.loop-q-init
-loop-q-init c =
-    let pre = c.requires in
-    showing pre.held pre.bytes_len
-
 pub returns-in-End : goal.returns-in-End
-returns-in-End c = shown_all c.loop-q.invariant (list_end _ _ _ (sym c.cut_at.ensures ∙ c.in-End.is))
+returns-in-End g c = shown_all c.loop-next.invariant (list_end _ _ _ (sym c.cut_at.ensures ∙ c.in-End.is))
 
 pub returns-in-Short : goal.returns-in-Short
-returns-in-Short c = shown_all c.loop-q.invariant (list_short _ _ _ (sym c.cut_at.ensures ∙ c.in-Short.is))
+returns-in-Short g c = shown_all c.loop-next.invariant (list_short _ _ _ (sym c.cut_at.ensures ∙ c.in-Short.is))
 
 pub overflow_add-from : goal.overflow_add-from
-overflow_add-from c =
-    let cut = sym c.cut_at.ensures ∙ c.in-Body.is in
-    let h = body_fits _ c.loop-q.at _ cut in
+overflow_add-from g c =
+    let h = body_fits _ c.loop-next.at _ (sym c.cut_at.ensures ∙ c.in-Body.is) in
     omega arith
 
 pub overflow_add-to : goal.overflow_add-to
-overflow_add-to c =
-    let cut = sym c.cut_at.ensures ∙ c.in-Body.is in
-    let h = body_fits _ c.loop-q.at _ cut in
+overflow_add-to g c =
+    let h = body_fits _ c.loop-next.at _ (sym c.cut_at.ensures ∙ c.in-Body.is) in
     omega arith
-
-pub slice_bounds-show_record-count : goal.slice_bounds-show_record-count
-slice_bounds-show_record-count c = omega arith
-
-pub slice_bounds-show_record-start : goal.slice_bounds-show_record-start
-slice_bounds-show_record-start c = omega arith
 
 pub slice_bounds-show_record-end : goal.slice_bounds-show_record-end
-slice_bounds-show_record-end c =
-    let cut = sym c.cut_at.ensures ∙ c.in-Body.is in
-    let h = body_fits _ c.loop-q.at _ cut in
+slice_bounds-show_record-end g c =
+    let h = body_fits _ c.loop-next.at _ (sym c.cut_at.ensures ∙ c.in-Body.is) in
     omega arith
 
-pub show_record-q-requires : goal.show_record-q-requires
-show_record-q-requires c = record { held = c.loop-q.invariant.held; bytes_len = c.loop-q.invariant.room }
-
-pub loop-q-smaller : goal.loop-q-smaller
-loop-q-smaller c =
-    let h = body_fits _ c.loop-q.at _ (sym c.cut_at.ensures ∙ c.in-Body.is) in
+pub loop-next-smaller : goal.loop-next-smaller
+loop-next-smaller g c =
+    let h = body_fits _ c.loop-next.at _ (sym c.cut_at.ensures ∙ c.in-Body.is) in
     omega arith
 
-pub loop-q-preserved : goal.loop-q-preserved
-loop-q-preserved c =
+pub loop-next-preserved : goal.loop-next-preserved
+loop-next-preserved g c =
     let n = c.in-Body.len in
-    let k = add-sub_cancel_left (c.loop-q.at + 2) n in
-    let b = list_body _ _ c.loop-q.at n (sym c.cut_at.ensures ∙ c.in-Body.is) in
-    let e = rw k at c.show_record-q.ensures in
-    let kept = c.show_record-q.auto in
-    show_on c.loop-q.invariant _ _ _ _ _ b e.apu_value e.still_held kept.bytes kept.text
+    let k = add-sub_cancel_left (c.loop-next.at + 2) n in
+    let b = list_body _ _ c.loop-next.at n (sym c.cut_at.ensures ∙ c.in-Body.is) in
+    let e = rw k at c.show_record-next.ensures in
+    show_on c.loop-next.invariant _ _ _ b e.apu_value e.still_held

@@ -5,10 +5,8 @@ use Rattle.log_records.specs.Records.{records_from, unrolled, listed_as}
 use Rattle.player.proofs.Showing.{Showing}
 use Rattle.player.proofs.show_list.Given as goal
 
-abbrev pub invariant-loop-q : goal.invariant-loop-q
-invariant-loop-q l =
-    Showing (listed_as l.version l.log) l.initial.q.apu l.initial.bytes l.initial.text
-    (unrolled (records_from l.version l.log l.at)) l.q.apu l.bytes l.text
+abbrev pub invariant-loop-next : goal.invariant-loop-next
+invariant-loop-next g l = Showing (listed_as l.version l.log) l.fn.apu (unrolled (records_from l.version l.log l.at)) l.next
 
-abbrev pub decreases-loop-q : goal.decreases-loop-q
-decreases-loop-q l = length l.log - l.at
+abbrev pub decreases-loop-next : goal.decreases-loop-next
+decreases-loop-next g l = length l.log - l.at

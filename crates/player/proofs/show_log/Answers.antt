@@ -1,9 +1,8 @@
--- The unit that the start byte asks for holds its ranges, and the buffers have 65,536 bytes. Assumes nothing.
-use mathlib.Core.Path.{sym}
+-- The unit of the start byte is in its ranges, and so is what it has stored. Assumes nothing.
+use Rattle.apu_clock.proofs.Demand3.{stored_held}
 use Rattle.player.proofs.show_log.Goals as goal
 
-pub show_list-shown-requires : goal.show_list-shown-requires
-show_list-shown-requires c =
-    let start = c.start-apu in
-    let large-buffer = c.large_buffer-bytes in
-    record { held = start.ensures.held; bytes_len = sym large-buffer.ensures }
+pub scan_from-answer-requires : goal.scan_from-answer-requires
+scan_from-answer-requires g c =
+    let ranges = c.start-apu.ensures.held in
+    rw c.meter_of.ensures (stored_held _ ranges.0 ranges.1)
