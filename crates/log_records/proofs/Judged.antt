@@ -9,6 +9,7 @@ use lib.ListN.{length, get_or}
 use borrow.Author.Tests.{leb-true, eqb-true, eq-eqb, ne_eqb}
 use Rattle.ground.specs.Pick.{pick}
 use Rattle.ground.proofs.Cases.{both_ways, pick_holds, pick_false, and_left, and_right}
+use Rattle.log_records.specs.Divider.{phase_of}
 use Rattle.log_records.specs.Judge.{write_of, read_of, clock_length, divider_in, count_in, fair_of, clock_of, pcm_of, judge_of, no_clocks, clocks_of}
 use Rattle.log_records.specs.declared.divider.Divider.{Divider}
 use Rattle.log_records.specs.declared.judge.Record.{Record}
@@ -32,7 +33,7 @@ clock_is_few : (version : ℕ) (s : List ℕ) → Few (clock_of version s)
 unfolding clock_of
 clock_is_few v s =
     both_ways Few _
-    (pick_holds Few _ (Clock _ _ (count_in v s)) Wrong (fair_few (get_or s 1 0) (divider_in v s).phase (count_in v s)) (λ _. tt))
+    (pick_holds Few _ (Clock _ _ (count_in v s)) Wrong (fair_few (get_or s 1 0) (phase_of (divider_in v s)) (count_in v s)) (λ _. tt))
     tt
 
 judged_few : (version : ℕ) (s : List ℕ) → Few (judge_of version s)
@@ -72,7 +73,7 @@ module _ (end v : ℕ) (s : List ℕ) (long : length s ≡ clock_length v) where
       rw (ne_eqb (length s) 0 some, eqb-true (get_or s 0 0) 3 e)
 
   abbrev fair : Bool
-  fair = fair_of (get_or s 1 0) (divider_in v s).phase (count_in v s)
+  fair = fair_of (get_or s 1 0) (phase_of (divider_in v s)) (count_in v s)
 
   pub clocks_right : (eqb (get_or s 0 0) 3 && fair) ≡ true
       → clocks_of end (judge_of v s) ≡ record { right = true; double = eqb (get_or s 1 0) 1; divider = divider_in v s; count = count_in v s; end = end }

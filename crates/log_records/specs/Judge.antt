@@ -2,8 +2,9 @@
 use Rattle.std.specs.Prelude.{ℕ, ◌+◌, ◌-◌, ◌*◌, List, Bool, true, false, ◌&&◌, length, get_or, leb, eqb}
 use Rattle.ground.specs.Pick.{pick}
 use Rattle.ground.specs.Num.{is_sound}
-use Rattle.log_records.specs.Divider.{standing, running}
+use Rattle.log_records.specs.Divider.{phase_of}
 use Rattle.log_records.specs.declared.divider.Divider.{Divider}
+use Rattle.log_records.specs.declared.divider.Divider.TheVariants.{Standing, Running}
 use Rattle.log_records.specs.declared.judge.Record.{Record}
 use Rattle.log_records.specs.declared.judge.Clocks.{Clocks}
 use Rattle.log_records.specs.declared.judge.Record.TheVariants.{Write, Read, Clock, Pcm, Wrong}
@@ -25,7 +26,7 @@ unfoldable pub clock_length : ℕ → ℕ
 clock_length version = pick (eqb version 1) 5 6
 
 unfoldable pub divider_in : ℕ → List ℕ → Divider
-divider_in version s = pick (eqb version 1) (standing (get_or s 2 0)) (running (get_or s 2 0) (get_or s 3 0))
+divider_in version s = pick (eqb version 1) (Standing (get_or s 2 0)) (Running (get_or s 2 0) (get_or s 3 0))
 
 -- the count is last
 abbrev pub count_in : ℕ → List ℕ → ℕ
@@ -41,7 +42,7 @@ clock_of version s =
     let divider = divider_in version s in
     let count = count_in version s in
     pick (eqb (length s) (clock_length version))
-    (pick (fair_of (get_or s 1 0) divider.phase count) (Clock (eqb (get_or s 1 0) 1) divider count) Wrong)
+    (pick (fair_of (get_or s 1 0) (phase_of divider) count) (Clock (eqb (get_or s 1 0) 1) divider count) Wrong)
     Wrong
 
 -- "04 both PCM reads (1)"
@@ -61,7 +62,7 @@ judge_of version s =
 -- ---- clock records by themselves: for the players alone
 
 abbrev pub no_clocks : Clocks
-no_clocks = record { right = false; double = false; divider = standing 0; count = 0; end = 0 }
+no_clocks = record { right = false; double = false; divider = Standing 0; count = 0; end = 0 }
 
 -- what a clock record says that ends at a place; no other record is one
 abbrev pub clocks_of : ℕ → Record → Clocks

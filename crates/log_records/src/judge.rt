@@ -1,6 +1,7 @@
 // The judge of a record's body: a part of the log, which starts in its middle.
 ghost use Rattle.std.specs.Prelude.{◌≡◌, ◌+◌, ◌<◌, ◌≤◌, length};
 ghost use Rattle.log_records.specs.Judge.{word, write_of, read_of, clock_length, divider_in, fair_of, clock_of, pcm_of, judge_of, no_clocks, clocks_of};
+ghost use Rattle.log_records.specs.Divider.{phase_of};
 ghost use Rattle.log_records.specs.Records.{clocks_at};
 
 use crate::divider::Divider;
@@ -82,24 +83,23 @@ fn divider_in(version: u8, body: &[u8]) -> Divider
     ensures { result ≡ divider_in version body.now }
 {
     if version == 1 {
-        Divider {
-            byte: body[2],
-            phase: 0,
-            runs: false,
-        }
+        Divider::Standing { byte: body[2] }
     } else {
-        Divider {
+        Divider::Running {
             byte: body[2],
             phase: body[3],
-            runs: true,
         }
     }
 }
 
 // Whether speed, phase and count are in their ranges.
-fn fair(speed: u8, phase: u8, count: u16) -> bool
-    ensures { result ≡ fair_of speed phase count }
+fn fair(speed: u8, divider: Divider, count: u16) -> bool
+    ensures { result ≡ fair_of speed (phase_of divider) count }
 {
+    let phase = match divider {
+        Divider::Standing { .. } => 0,
+        Divider::Running { phase, .. } => phase,
+    };
     (speed <= 1) & ((phase <= 63) & ((1 <= count) & (count <= 16384)))
 }
 
@@ -112,7 +112,7 @@ fn judge_clock(version: u8, body: &[u8]) -> Record
         let speed = body[1];
         let divider = divider_in(version, body);
         let count = word_at(body, length - 2);
-        if fair(speed, divider.phase, count) {
+        if fair(speed, divider, count) {
             return Record::Clock {
                 double: speed == 1,
                 divider,
@@ -136,15 +136,10 @@ pub struct Clocks {
 fn no_clocks() -> Clocks
     ensures { result ≡ no_clocks }
 {
-    let divider = Divider {
-        byte: 0,
-        phase: 0,
-        runs: false,
-    };
     Clocks {
         right: false,
         double: false,
-        divider,
+        divider: Divider::Standing { byte: 0 },
         count: 0,
         end: 0,
     }
@@ -159,7 +154,7 @@ fn clocks_in(version: u8, body: &[u8], end: usize) -> Clocks
     let speed = body[1];
     let divider = divider_in(version, body);
     let count = word_at(body, length - 2);
-    if (body[0] == 3) & fair(speed, divider.phase, count) {
+    if (body[0] == 3) & fair(speed, divider, count) {
         return Clocks {
             right: true,
             double: speed == 1,

@@ -11,6 +11,7 @@ use lib.Dec.{leb, ltb}
 use Rattle.ground.specs.Pick.{pick}
 use Rattle.ground.proofs.Cases.{pick_holds, both_ways, and_right}
 use Rattle.log_records.specs.declared.divider.Divider.{Divider}
+use Rattle.log_records.specs.Divider.{phase_of}
 use Rattle.log_records.specs.declared.judge.Record.{Record}
 use Rattle.log_records.specs.declared.judge.Record.TheVariants.{Write, Read, Clock, Pcm, Wrong}
 use Rattle.log_records.specs.declared.cut.Cut.{Cut}
@@ -60,7 +61,7 @@ judged_low v s =
     (both_ways Low _ (both_ways Low _ (both_ways Low _ (nothing_low _ refl refl (omega arith)) wrong_low) wrong_low)
     (both_ways Low _
     (both_ways Low _
-    (pick_holds Low _ _ _ (λ e. clock_low _ _ _ (count_le (get_or s 1 0) (divider_in v s).phase (count_in v s) e)) (λ _. wrong_low))
+    (pick_holds Low _ _ _ (λ e. clock_low _ _ _ (count_le (get_or s 1 0) (phase_of (divider_in v s)) (count_in v s) e)) (λ _. wrong_low))
     wrong_low)
     (both_ways Low _ (both_ways Low _ (nothing_low _ refl refl (omega arith)) wrong_low) wrong_low))))
 

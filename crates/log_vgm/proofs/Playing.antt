@@ -12,7 +12,8 @@ use Rattle.ground.specs.Pick.{pick}
 use Rattle.ground.proofs.Cases.{pick_holds}
 use Rattle.clocks.specs.Calls.{K}
 use Rattle.clocks.specs.Metered.{frames_of}
-use Rattle.log_records.specs.Divider.{running, divider_at}
+use Rattle.log_records.specs.Divider.{divider_at}
+use Rattle.log_records.specs.declared.divider.Divider.TheVariants.{Running}
 use Rattle.log_records.specs.Records.{listed}
 use Rattle.log_records.specs.declared.judge.Record.{Record}
 use Rattle.log_scan.specs.declared.scan.Sums.{Sums}
@@ -62,7 +63,7 @@ write_right register value h =
     rw (le-leb 0xFF10 (0xFF10 + register) lo, le-leb (0xFF10 + register) 0xFF3F hi)
 
 clock_right : (C n : ℕ) → 1 ≤ n → n ≤ 16384 → Right (clock_record C n)
-clock_right C n lo hi = (refl, (omega arith, (lo, hi)))
+clock_right C n lo hi = (omega arith, (lo, hi))
 
 wholes_right : (C k : ℕ) → Each (wholes C k)
 unfolding wholes
@@ -106,8 +107,8 @@ imported_taken s room d last =
     rw (le-ltb 65536 (length (log_of s)) short, le-ltb (length (log_of s)) 2 two, ap is_place clear)
 
 -- ---- the divider
-clock_runs : (C i : ℕ) → divider_at (running (C / 64 % 256) (C % 64)) i ≡ (C + i) / 64 % 256
-unfolding divider_at pick
+clock_runs : (C i : ℕ) → divider_at (Running (C / 64 % 256) (C % 64)) i ≡ (C + i) / 64 % 256
+unfolding divider_at
 clock_runs C i = omega arith
 
 wholes_run : (C k : ℕ) (l : List Record) → RunsFrom (C + k * 16384) l → RunsFrom C (wholes C k ++ l)

@@ -9,11 +9,10 @@ use borrow.Author.Tests.{le-leb}
 use lib.ListN.{length}
 use Rattle.ground.specs.Pick.{pick}
 use Rattle.ground.specs.Num.{is_sound}
-use Rattle.log_records.specs.Divider.{running}
 use Rattle.log_records.specs.Judge.{write_of, read_of, clock_length, divider_in, clock_of, pcm_of, judge_of}
 use Rattle.log_records.specs.Records.{Parsed, done, item, cut_at, body_at, records_from, records_of, listed, unrolled}
 use Rattle.log_records.specs.declared.cut.Cut.TheVariants.{End, Body}
-use Rattle.log_records.specs.declared.divider.Divider.{Divider}
+use Rattle.log_records.specs.declared.divider.Divider.TheVariants.{Standing, Running}
 use Rattle.log_records.specs.declared.judge.Record.{Record}
 use Rattle.log_records.specs.declared.judge.Record.TheVariants.{Write, Read, Clock, Pcm, Wrong}
 use Rattle.log_records.proofs.Framing.{at_end, at_body}
@@ -26,7 +25,8 @@ use Rattle.log_vgm.specs.Log.{record_bytes, written}
 abbrev pub Right : Record → Type 0
 Right (Write addr value) = is_sound addr ≡ true
 Right (Read addr) = is_sound addr ≡ true
-Right (Clock double divider count) = (divider.runs ≡ true) × ((divider.phase ≤ 63) × ((1 ≤ count) × (count ≤ 16384)))
+Right (Clock double (Standing byte) count) = 1 ≤ 0
+Right (Clock double (Running byte phase) count) = (phase ≤ 63) × ((1 ≤ count) × (count ≤ 16384))
 Right Pcm = 0 ≤ 0
 Right Wrong = 1 ≤ 0
 
@@ -50,16 +50,11 @@ judged_read : (addr : ℕ) → is_sound addr ≡ true → judge_of 2 (2 ∷ addr
 unfolding judge_of read_of pick
 judged_read addr h = rw (two_bytes addr, h)
 
-is_running : (d : Divider) → d.runs ≡ true → running d.byte d.phase ≡ d
-is_running d e = ap (λ (b : Bool). record { byte = d.byte; phase = d.phase; runs = b }) (sym e)
-
-judged_clock : (double : Bool) (d : Divider) (count : ℕ) → Right (Clock double d count)
-    → judge_of 2 (3 ∷ pick double 1 0 ∷ d.byte ∷ d.phase ∷ count / 256 ∷ count % 256 ∷ []) ≡ Clock double d count
+judged_clock : (double : Bool) (byte phase count : ℕ) → Right (Clock double (Running byte phase) count)
+    → judge_of 2 (3 ∷ pick double 1 0 ∷ byte ∷ phase ∷ count / 256 ∷ count % 256 ∷ []) ≡ Clock double (Running byte phase) count
 unfolding judge_of clock_of clock_length divider_in pick
-judged_clock true d count (r, (p, (lo, hi))) =
-    rw (two_bytes count, le-leb d.phase 63 p, le-leb 1 count lo, le-leb count 16384 hi) (ap (λ (v : Divider). Clock true v count) (is_running d r))
-judged_clock false d count (r, (p, (lo, hi))) =
-    rw (two_bytes count, le-leb d.phase 63 p, le-leb 1 count lo, le-leb count 16384 hi) (ap (λ (v : Divider). Clock false v count) (is_running d r))
+judged_clock true byte phase count (p, (lo, hi)) = rw (two_bytes count, le-leb phase 63 p, le-leb 1 count lo, le-leb count 16384 hi)
+judged_clock false byte phase count (p, (lo, hi)) = rw (two_bytes count, le-leb phase 63 p, le-leb 1 count lo, le-leb count 16384 hi)
 
 judged_pcm : judge_of 2 (4 ∷ []) ≡ Pcm
 unfolding judge_of pcm_of pick
@@ -78,7 +73,10 @@ one : (r : Record) → Right r → records_of (log_of_one r) ≡ item 2 r done
 unfolding cut_at pick
 one (Write addr value) h = alone (log_of_one (Write addr value)) 4 (Write addr value) refl refl (judged_write addr value h)
 one (Read addr) h = alone (log_of_one (Read addr)) 3 (Read addr) refl refl (judged_read addr h)
-one (Clock double d count) h = alone (log_of_one (Clock double d count)) 6 (Clock double d count) refl refl (judged_clock double d count h)
+one (Clock double (Standing byte) count) h = absurd (not-suc-le-zero h)
+one (Clock double (Running byte phase) count) h =
+    let r = Clock double (Running byte phase) count in
+    alone (log_of_one r) 6 r refl refl (judged_clock double byte phase count h)
 one Pcm h = alone (log_of_one Pcm) 1 Pcm refl refl judged_pcm
 one Wrong h = absurd (not-suc-le-zero h)
 
@@ -86,7 +84,7 @@ right_clear : (r : Record) → Right r → wrong_in (item 2 r done) ≡ Clear
 unfolding wrong_in
 right_clear (Write addr value) h = refl
 right_clear (Read addr) h = refl
-right_clear (Clock double d count) h = refl
+right_clear (Clock double divider count) h = refl
 right_clear Pcm h = refl
 right_clear Wrong h = absurd (not-suc-le-zero h)
 

@@ -1,7 +1,8 @@
 -- The records that the commands of a VGM file become, and the bytes of the log that has them, from request 2026-05. Assumes nothing.
 use Rattle.std.specs.Prelude.{ℕ, zero, suc, ◌+◌, ◌-◌, ◌*◌, ◌/◌, ◌%◌, ◌≤◌, false, List, [], ◌∷◌, ◌++◌, eqb}
 use Rattle.ground.specs.Pick.{pick}
-use Rattle.log_records.specs.Divider.{running}
+use Rattle.log_records.specs.Divider.{byte_of, phase_of}
+use Rattle.log_records.specs.declared.divider.Divider.TheVariants.{Running}
 use Rattle.log_records.specs.declared.judge.Record.{Record}
 use Rattle.log_records.specs.declared.judge.Record.TheVariants.{Write, Read, Clock, Pcm, Wrong}
 use Rattle.log_vgm.specs.declared.command.Command.{Command}
@@ -17,7 +18,7 @@ write_record register value = Write (0xFF10 + register) value
 
 -- so many calls at "normal speed"; "Divider and phase start at 0 and run through": both are those after C calls, of which 64 move the divider on by 1
 abbrev pub clock_record : ℕ → ℕ → Record
-clock_record C calls = Clock false (running (C / 64 % 256) (C % 64)) calls
+clock_record C calls = Clock false (Running (C / 64 % 256) (C % 64)) calls
 
 -- "Each wait becomes records of 16,384 calls": k of them, C calls being before the first
 unfoldable pub wholes : ℕ → ℕ → List Record
@@ -59,7 +60,7 @@ abbrev pub record_bytes : Record → List ℕ
 record_bytes (Write addr value) = 0 ∷ 4 ∷ 1 ∷ addr / 256 ∷ addr % 256 ∷ value ∷ []
 record_bytes (Read addr) = 0 ∷ 3 ∷ 2 ∷ addr / 256 ∷ addr % 256 ∷ []
 record_bytes (Clock double divider count) =
-    0 ∷ 6 ∷ 3 ∷ pick double 1 0 ∷ divider.byte ∷ divider.phase ∷ count / 256 ∷ count % 256 ∷ []
+    0 ∷ 6 ∷ 3 ∷ pick double 1 0 ∷ byte_of divider ∷ phase_of divider ∷ count / 256 ∷ count % 256 ∷ []
 record_bytes Pcm = 0 ∷ 1 ∷ 4 ∷ []
 record_bytes Wrong = []
 
