@@ -10,6 +10,7 @@ use lib.ListN.{length, get_or, drop_of_length-le, length-append}
 use lib.Dec.{ltb}
 use lib.Seq.{sets-eq}
 use borrow.Author.Tests.{le-ltb}
+use Rattle.std.specs.Prelude.{Option, None, Some}
 use Rattle.ground.specs.Pick.{pick}
 use Rattle.ground.proofs.Cases.{pick_holds}
 use Rattle.apu.specs.Held.{Whole}
@@ -21,8 +22,6 @@ use Rattle.log_scan.specs.Answers.{is_done, done_as, or_wrong, scanned_as, withi
 use Rattle.log_scan.specs.declared.answer.LogAnswer.{LogAnswer}
 use Rattle.log_scan.specs.declared.answer.LogAnswer.TheVariants.{Done, TooLong, BadStart, WrongRecord, TooShort}
 use Rattle.log_scan.specs.declared.scan.Sums.{Sums}
-use Rattle.log_scan.specs.declared.scan.Mark.{Mark}
-use Rattle.log_scan.specs.declared.scan.Mark.TheVariants.{Clear, At}
 use Rattle.log_scan.proofs.Counting.{summed_append}
 use Rattle.log_scan.proofs.Done.{done_clear}
 use Rattle.log_player.specs.Playing.{unit_of_start, output, unit_at_end}
@@ -75,10 +74,10 @@ module _ (room n f : ℕ) (s : List ℕ) where
   roomy true d = cc
   roomy false d = refl
 
-  marked : (m : Mark) → Is (or_wrong m sums)
+  marked : (m : Option ℕ) → Is (or_wrong m sums)
   unfolding within_room
-  marked Clear d = roomy (ltb room n) d
-  marked (At p) d = cc
+  marked None d = roomy (ltb room n) d
+  marked (Some p) d = cc
 
   done_is : Is (scanned_as n f s)
   unfolding scanned_as within_room
@@ -194,7 +193,7 @@ module _ (s a b place : List ℕ) (room more : ℕ) (m n : Counts) (links : Link
   done_kept : is_done (answer_on (unit_of kept) b more) ≡ true
   done_kept = ap (λ (w : Apu). is_done (answer_on w b more)) taken_up ∙ done_b
 
-  clear_b : wrong_in (records_of b) ≡ Clear
+  clear_b : wrong_in (records_of b) ≡ None
   clear_b = done_clear more (length (output (listed b) v)) (made_by (listed b) v) b done_b
 
   sum : sum_of (answer_on u a room) (answer_on v b more)

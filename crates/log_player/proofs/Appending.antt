@@ -7,6 +7,7 @@ use native.Mathlib.Nat.{zero-add, add_assoc}
 use native.Mathlib.Omega.{arith}
 use mathlib.Core.Bool.{true, false}
 use lib.ListN.{length, get_or, take, drop, length-append}
+use Rattle.std.specs.Prelude.{None}
 use Rattle.ground.specs.Pick.{pick}
 use Rattle.ground.proofs.Cases.{both_ways}
 use Rattle.apu.specs.Held.{Held, FloatsHeld}
@@ -21,7 +22,6 @@ use Rattle.log_records.specs.declared.cut.Cut.TheVariants.{End, Short, Body}
 use Rattle.log_records.specs.Judge.{write_of, read_of, clock_of, pcm_of, judge_of}
 use Rattle.log_records.specs.Records.{Parsed, cut_at, body_at, grow, parse, records_from, unrolled, version_of, records_of, listed}
 use Rattle.log_records.proofs.Joining.{get_d_drop}
-use Rattle.log_scan.specs.declared.scan.Mark.TheVariants.{Clear}
 use Rattle.log_scan.specs.Scan.{wrong_in, summed, added}
 use Rattle.log_scan.specs.Answers.{is_done, too_long, done_as, scanned_as, within_room}
 use Rattle.log_scan.proofs.Done.{done_long, done_start, done_clear}
@@ -123,7 +123,7 @@ module _ (a : Apu) (s t : List ℕ) (same : version_of t ≡ version_of s) (room
   good : 2 ≤ length s
   good = done_long room (length (output (listed s) a)) (made_by (listed s) a) s done
 
-  whole : wrong_in (records_of s) ≡ Clear
+  whole : wrong_in (records_of s) ≡ None
   whole = done_clear room (length (output (listed s) a)) (made_by (listed s) a) s done
 
   both : listed (s ++ drop 2 t) ≡ listed s ++ listed t
@@ -135,13 +135,13 @@ module _ (a : Apu) (s t : List ℕ) (same : version_of t ≡ version_of s) (room
   pub made_by_join : made_by (listed (s ++ drop 2 t)) a ≡ made_by (listed s) a + made_by (listed t) (unit_at_end (listed s) a)
   made_by_join = ap (λ (l : List Record). made_by l a) both ∙ made_by_append (listed s) (listed t) a
 
-  passes : too_long (s ++ drop 2 t) ≡ false → wrong_in (records_of t) ≡ Clear
+  passes : too_long (s ++ drop 2 t) ≡ false → wrong_in (records_of t) ≡ None
       → (n f : ℕ) → scanned_as n f (s ++ drop 2 t) ≡ done_as n f (summed (listed (s ++ drop 2 t)))
   unfolding scanned_as pick
   passes short clear n f = rw (short, start_join s (drop 2 t) good ∙ done_start room _ _ s done, clear_join s t good same whole clear)
 
   -- and what both in one log are answered, where it is not too long: the bytes, frames, clock calls and records of both
-  pub answer_join : (wide : ℕ) → too_long (s ++ drop 2 t) ≡ false → wrong_in (records_of t) ≡ Clear
+  pub answer_join : (wide : ℕ) → too_long (s ++ drop 2 t) ≡ false → wrong_in (records_of t) ≡ None
       → let b = unit_at_end (listed s) a in
       answer_on a (s ++ drop 2 t) wide
       ≡ within_room wide

@@ -8,6 +8,8 @@ use native.Mathlib.Omega.{arith}
 use borrow.Author.Tests.{leb-true, leb-false, ltb-false}
 use lib.ListN.{length, get_or}
 use lib.Dec.{leb, ltb}
+use Rattle.std.specs.Prelude.{Option, None, Some}
+use Rattle.std.specs.Option.{option_or}
 use Rattle.ground.specs.Pick.{pick}
 use Rattle.ground.proofs.Cases.{pick_holds, both_ways, and_right}
 use Rattle.log_records.specs.declared.divider.Divider.{Divider}
@@ -16,14 +18,12 @@ use Rattle.log_records.specs.declared.judge.Record.{Record}
 use Rattle.log_records.specs.declared.judge.Record.TheVariants.{Write, Read, Clock, Pcm, Wrong}
 use Rattle.log_records.specs.declared.cut.Cut.{Cut}
 use Rattle.log_records.specs.declared.cut.Cut.TheVariants.{End, Short, Body}
-use Rattle.log_scan.specs.declared.scan.Mark.{Mark}
-use Rattle.log_scan.specs.declared.scan.Mark.TheVariants.{Clear, At}
 use Rattle.log_scan.specs.declared.answer.LogAnswer.{LogAnswer}
 use Rattle.log_scan.specs.declared.answer.LogAnswer.TheVariants.{Done, TooLong, BadStart, WrongRecord, TooShort}
 use Rattle.log_records.specs.Judge.{word, write_of, read_of, divider_in, count_in, fair_of, clock_of, pcm_of, judge_of}
 use Rattle.log_records.specs.Records.{Parsed, cut_at, body_at, grow, parse, records_from, unrolled, listed_as, version_of, records_of}
 use Rattle.log_scan.specs.Sums.{asks, halves_of, read_bytes_of, sum_of}
-use Rattle.log_scan.specs.Scan.{or_mark, wrong_mark, wrong_in, summed}
+use Rattle.log_scan.specs.Scan.{wrong_mark, wrong_in, summed}
 use Rattle.log_scan.specs.Answers.{refusal_of, returned_of, bytes_by, or_wrong, scanned_as, scanned_from, within_room, Small}
 use Rattle.clocks.specs.Calls.{K}
 use Rattle.clocks.specs.Metered.{Held}
@@ -135,13 +135,13 @@ short_inside s at e = go (leb (length s) at) refl e
     go false x h = le_of_lt (leb-false (length s) at x)
 
 -- a mark lies within the log
-abbrev Inside : ℕ → Mark → Type 0
-Inside top Clear = 0 ≤ top
-Inside top (At p) = p ≤ top
+abbrev Inside : ℕ → Option ℕ → Type 0
+Inside top None = 0 ≤ top
+Inside top (Some p) = p ≤ top
 
-or_inside : (top : ℕ) (a b : Mark) → Inside top a → Inside top b → Inside top (or_mark a b)
-or_inside top Clear b p q = q
-or_inside top (At p) b h q = h
+or_inside : (top : ℕ) (a b : Option ℕ) → Inside top a → Inside top b → Inside top (option_or a b)
+or_inside top None b p q = q
+or_inside top (Some p) b h q = h
 
 mark_inside : (top place : ℕ) (r : Record) → place ≤ top → Inside top (wrong_mark place r)
 mark_inside top place (Write addr value) h = omega arith
@@ -177,9 +177,9 @@ room_packs room BadStart h = h
 room_packs room (WrongRecord p) h = h
 room_packs room (TooShort n) h = h
 
-wrong_packs : (top : ℕ) (m : Mark) (a : LogAnswer) → top ≤ 65536 → Inside top m → Packs a → Packs (or_wrong m a)
-wrong_packs top Clear a t i h = h
-wrong_packs top (At p) a t i h = omega arith
+wrong_packs : (top : ℕ) (m : Option ℕ) (a : LogAnswer) → top ≤ 65536 → Inside top m → Packs a → Packs (or_wrong m a)
+wrong_packs top None a t i h = h
+wrong_packs top (Some p) a t i h = omega arith
 
 scanned_packs : (m : Meter) → Held K m → (s : List ℕ) → Packs (scanned_from m s)
 unfolding scanned_as records_from

@@ -8,6 +8,7 @@ use native.Mathlib.Omega.{arith}
 use native.Mathlib.Nat.{add-zero, zero-add}
 use borrow.Author.Tests.{le-leb, le-ltb, eqb-true, eqb-false}
 use lib.ListN.{length}
+use Rattle.std.specs.Prelude.{is_some}
 use Rattle.ground.specs.Pick.{pick}
 use Rattle.ground.proofs.Cases.{pick_holds}
 use Rattle.clocks.specs.Calls.{K}
@@ -18,7 +19,7 @@ use Rattle.log_records.specs.Records.{listed}
 use Rattle.log_records.specs.declared.judge.Record.{Record}
 use Rattle.log_scan.specs.declared.scan.Sums.{Sums}
 use Rattle.log_scan.specs.Sums.{asks, halves_of, sum_of}
-use Rattle.log_scan.specs.Answers.{bad_start, is_place, first_refused}
+use Rattle.log_scan.specs.Answers.{bad_start, first_refused}
 use Rattle.log_scan.proofs.Bounds.{calls_low}
 use Rattle.log_scan.proofs.Counting.{summed_append}
 use Rattle.log_vgm.specs.declared.command.Command.{Command}
@@ -104,7 +105,7 @@ imported_taken s room d last =
     let short = (done_fits s room d).0 in
     let clear = (read_back (imported_records s) (all_right s)).1 in
     let two : 2 ≤ length (log_of s) = omega arith in
-    rw (le-ltb 65536 (length (log_of s)) short, le-ltb (length (log_of s)) 2 two, ap is_place clear)
+    rw (le-ltb 65536 (length (log_of s)) short, le-ltb (length (log_of s)) 2 two, ap is_some clear)
 
 -- ---- the divider
 clock_runs : (C i : ℕ) → divider_at (Running (C / 64 % 256) (C % 64)) i ≡ (C + i) / 64 % 256

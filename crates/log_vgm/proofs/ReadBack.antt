@@ -7,6 +7,7 @@ use native.Mathlib.Nat.{not-suc-le-zero}
 use native.Mathlib.Omega.{arith}
 use borrow.Author.Tests.{le-leb}
 use lib.ListN.{length}
+use Rattle.std.specs.Prelude.{None}
 use Rattle.ground.specs.Pick.{pick}
 use Rattle.ground.specs.Num.{is_sound}
 use Rattle.log_records.specs.Judge.{write_of, read_of, clock_length, divider_in, clock_of, pcm_of, judge_of}
@@ -16,7 +17,6 @@ use Rattle.log_records.specs.declared.divider.Divider.TheVariants.{Standing, Run
 use Rattle.log_records.specs.declared.judge.Record.{Record}
 use Rattle.log_records.specs.declared.judge.Record.TheVariants.{Write, Read, Clock, Pcm, Wrong}
 use Rattle.log_records.proofs.Framing.{at_end, at_body}
-use Rattle.log_scan.specs.declared.scan.Mark.TheVariants.{Clear}
 use Rattle.log_scan.specs.Scan.{wrong_in}
 use Rattle.log_scan.proofs.Joining.{clear_listed_join, clear_join}
 use Rattle.log_vgm.specs.Log.{record_bytes, written}
@@ -80,7 +80,7 @@ one (Clock double (Running byte phase) count) h =
 one Pcm h = alone (log_of_one Pcm) 1 Pcm refl refl judged_pcm
 one Wrong h = absurd (not-suc-le-zero h)
 
-right_clear : (r : Record) → Right r → wrong_in (item 2 r done) ≡ Clear
+right_clear : (r : Record) → Right r → wrong_in (item 2 r done) ≡ None
 unfolding wrong_in
 right_clear (Write addr value) h = refl
 right_clear (Read addr) h = refl
@@ -96,7 +96,7 @@ nothing = at_end 2 (2 ∷ 1 ∷ []) 2 refl
 abbrev log_of_all : List Record → List ℕ
 log_of_all l = 2 ∷ 1 ∷ written l
 
-pub read_back : (l : List Record) → Each l → (listed (log_of_all l) ≡ l) × (wrong_in (records_of (log_of_all l)) ≡ Clear)
+pub read_back : (l : List Record) → Each l → (listed (log_of_all l) ≡ l) × (wrong_in (records_of (log_of_all l)) ≡ None)
 unfolding written wrong_in
 read_back [] h = (ap unrolled nothing, ap wrong_in nothing)
 read_back (r ∷ l) h =
