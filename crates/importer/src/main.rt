@@ -4,7 +4,7 @@
 
 ghost use Rattle.std.specs.Prelude.{◌≡◌, length};
 
-use log_vgm::import::{Imported, import_log, refusal, returned};
+use log_vgm::import::{import_log, refusal, returned};
 
 // Room for the most bytes that it takes. (The library has no such bound.)
 fn room() -> [u8; 1048576]
@@ -31,11 +31,8 @@ fn run(vgm: &[u8]) {
     let mut log = io::large_buffer();
     let answer = import_log(vgm, &mut log);
     match answer {
-        Imported::Done { written } => write_log(&log, written as usize),
-        Imported::BadHeader => print_refused(refusal(answer), returned(answer)),
-        Imported::BadCommand { place: _ } => print_refused(refusal(answer), returned(answer)),
-        Imported::TooLong => print_refused(refusal(answer), returned(answer)),
-        Imported::TooShort { needed: _ } => print_refused(refusal(answer), returned(answer)),
+        Ok(written) => write_log(&log, written as usize),
+        Err(_) => print_refused(refusal(answer), returned(answer)),
     }
 }
 

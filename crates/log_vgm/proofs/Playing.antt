@@ -8,7 +8,7 @@ use native.Mathlib.Omega.{arith}
 use native.Mathlib.Nat.{add-zero, zero-add}
 use borrow.Author.Tests.{le-leb, le-ltb, eqb-true, eqb-false}
 use lib.ListN.{length}
-use Rattle.std.specs.Prelude.{is_some}
+use Rattle.std.specs.Prelude.{Some, None, Ok, Err, is_some}
 use Rattle.ground.specs.Pick.{pick}
 use Rattle.ground.proofs.Cases.{pick_holds}
 use Rattle.clocks.specs.Calls.{K}
@@ -24,9 +24,7 @@ use Rattle.log_scan.proofs.Bounds.{calls_low}
 use Rattle.log_scan.proofs.Counting.{summed_append}
 use Rattle.log_vgm.specs.declared.command.Command.{Command}
 use Rattle.log_vgm.specs.declared.command.Command.TheVariants.{Store, Wait}
-use Rattle.log_vgm.specs.declared.command.Next.{Next}
-use Rattle.log_vgm.specs.declared.command.Next.TheVariants.{Taken, End, Bad}
-use Rattle.log_vgm.specs.Commands.{next_at, Track, ended, stopped, after, grow, walk, commands_from, samples_in}
+use Rattle.log_vgm.specs.Commands.{Next, next_at, Track, ended, stopped, after, grow, walk, commands_from, samples_in}
 use Rattle.log_vgm.specs.Header.{start_of}
 use Rattle.log_vgm.specs.Clockwork.{calls_at, sample_after}
 use Rattle.log_vgm.specs.Log.{Low, write_record, clock_record, wholes, rest_of, wait_records, records_at, records_on, track_of, imported_records, log_of}
@@ -43,9 +41,9 @@ Lows (stopped place) = 0 ≤ 0
 Lows (after command rest) = Low command × Lows rest
 
 grow_low : (s : List ℕ) (at : ℕ) (rest : ℕ → Track) (k : Next) → Fits s at k → ((n : ℕ) → Lows (rest n)) → Lows (grow at rest k)
-grow_low s at rest (Taken command more) h l = (h.1, l (at + 1 + more))
-grow_low s at rest End h l = omega arith
-grow_low s at rest Bad h l = omega arith
+grow_low s at rest (Ok (Some taken)) h l = (h.1, l (at + 1 + taken.more))
+grow_low s at rest (Ok None) h l = omega arith
+grow_low s at rest (Err e) h l = omega arith
 
 walk_low : (f : ℕ) (s : List ℕ) (at : ℕ) → Lows (walk f s at)
 unfolding walk

@@ -10,7 +10,7 @@ use lib.Seq.{sets, length-sets}
 use Rattle.ground.specs.Pick.{pick}
 use Rattle.log_items.proofs.Stores.{sets_append}
 use Rattle.log_vgm.specs.declared.clockwork.Walk.{Walk}
-use Rattle.log_vgm.specs.declared.command.Command.{Command}
+use Rattle.log_vgm.specs.declared.command.Taken.{Taken}
 use Rattle.log_vgm.specs.Commands.{ended, stopped, after, commands_from}
 use Rattle.log_vgm.specs.Clockwork.{walked_of}
 use Rattle.log_vgm.specs.Log.{clock_record, wholes, rest_of, wait_records, record_bytes, written, bytes_by, bytes_on, opening, wait_bytes}
@@ -94,12 +94,12 @@ module _ {s : List ℕ} {from : Walk} {out₀ : List ℕ} {place : ℕ} {out : L
   pub put_same : length out ≡ length out₀
   put_same = ap length inv.bytes ∙ length-sets out₀ place inv.gone
 
-  module _ (command : Command) (more : ℕ) (step : commands_from s walk.at ≡ after command (commands_from s (walk.at + 1 + more))) where
+  module _ (taken : Taken) (step : commands_from s walk.at ≡ after taken.command (commands_from s (walk.at + 1 + taken.more))) where
     abbrev next : List ℕ
-    next = bytes_by walk.clockwork command
+    next = bytes_by walk.clockwork taken.command
 
     abbrev on : Walk
-    on = walked_of walk command more
+    on = walked_of walk taken
 
     whole_is : (inv.gone ++ next) ++ bytes_on on.clockwork (commands_from s on.at) ≡ bytes_on from.clockwork (commands_from s from.at)
     unfolding bytes_on
@@ -136,7 +136,7 @@ module _ {s : List ℕ} {from : Walk} {out₀ : List ℕ} {place : ℕ} {out : L
   unfolding bytes_on
   ended_put e = all_put (ap (bytes_on walk.clockwork) e)
 
-  pub stopped_put : commands_from s walk.at ≡ stopped walk.at → out ≡ sets out₀ place (bytes_on from.clockwork (commands_from s from.at))
+  pub stopped_put : {where_to : ℕ} → commands_from s walk.at ≡ stopped where_to → out ≡ sets out₀ place (bytes_on from.clockwork (commands_from s from.at))
   unfolding bytes_on
   stopped_put e = all_put (ap (bytes_on walk.clockwork) e)
 

@@ -6,7 +6,7 @@ ghost use Rattle.log_vgm.specs.Log.{Low, write_record, clock_record, wholes, rec
 ghost use Rattle.log_vgm.specs.declared.command.Command.TheVariants.{Wait};
 
 use crate::clockwork::{Clockwork, Walk, calls_in, walked};
-use crate::command::{Command, Next, next_at};
+use crate::command::{Command, next_at};
 
 // The bytes before those of the commands: version, start byte and the write that turns the unit on.
 pub const OPENING: u32 = 8;
@@ -106,19 +106,9 @@ fn put_commands(vgm: &[u8], from: Walk, out: &mut [u8], place: usize)
 {
     let mut walk = from;
     let mut at = place;
-    loop {
-        match next_at(vgm, walk.at) {
-            Next::Taken { command, more } => {
-                at = put_command(out, at, walk.clockwork, command);
-                walk = walked(walk, command, more);
-            }
-            Next::End => {
-                return;
-            }
-            Next::Bad => {
-                return;
-            }
-        }
+    while let Ok(Some(taken)) = next_at(vgm, walk.at) {
+        at = put_command(out, at, walk.clockwork, taken.command);
+        walk = walked(walk, taken);
     }
 }
 
