@@ -2,47 +2,37 @@
 // number and the number that it returns to standard error. TOO LONG there is a file of more bytes than it takes.
 #![tactic(auto)]
 
-ghost use Rattle.std.specs.Prelude.{◌≡◌, length};
-
 use log_vgm::import::{import_log, refusal, returned};
+use std::io::{self, ErrorKind, Read};
 
-// Room for the most bytes that it takes. (The library has no such bound.)
-fn room() -> [u8; 1048576]
-    ensures { 1048576 ≡ length result }
-{
-    [0; 1048576]
-}
+// The most bytes of a file that it takes. (The library has no such bound.)
+const MOST: usize = 1_048_576;
 
-fn print_refused(refusal: u64, number: u64) {
-    io::write_all(2, b"REFUSED ");
-    io::print_decimal(2, refusal);
-    io::write_all(2, b" ");
-    io::print_decimal(2, number);
-    io::write_all(2, b"\n");
-}
-
-fn write_log(log: &[u8], length: usize) {
-    if length <= log.len() {
-        io::write_all(1, &log[..length]);
+// The file on standard input, and of a longer one a byte more than is taken. A read that fails ends it.
+fn read_file(rt: &(impl Input + AllocGlobal)) -> io::Result<Vec<u8>> {
+    let mut vgm = Vec::new(rt.alloc());
+    match rt.reader().take(MOST as u64 + 1).read_to_end(&mut vgm) {
+        Err(error) if error.kind() == ErrorKind::OutOfMemory => Err(error),
+        _ => Ok(vgm),
     }
 }
 
-fn run(vgm: &[u8]) {
-    let mut log = io::large_buffer();
-    let answer = import_log(vgm, &mut log);
-    match answer {
-        Ok(written) => write_log(&log, written as usize),
-        Err(_) => print_refused(refusal(answer), returned(answer)),
+// Writes the file's log, or why there is none.
+fn import(rt: &(impl Print + Eprint), vgm: &[u8]) -> io::Result<()> {
+    let mut log = [0; 65_536];
+    match import_log(vgm, &mut log) {
+        Ok(written) => rt.write_all(&log[..written as usize]),
+        refused => eprintln!(rt; "REFUSED {} {}", refusal(refused), returned(refused)),
     }
 }
 
-fn main() {
-    let mut vgm = room();
-    let n = io::read_full(0, &mut vgm);
-    let mut more = [0u8; 1];
-    if 0 < io::read_full(0, &mut more) {
-        io::write_all(2, b"TOO LONG\n");
-        return;
-    }
-    run(&vgm[..n]);
+fn main(rt: HostRuntime) -> io::Result<()> {
+    let vgm = read_file(&rt)?;
+    // What can't be written is passed over.
+    let _ = if MOST < vgm.len() {
+        eprintln!(rt; "TOO LONG")
+    } else {
+        import(&rt, &vgm)
+    };
+    Ok(())
 }

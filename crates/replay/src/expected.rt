@@ -1,14 +1,23 @@
 // A case of the input, by its head of 24 bytes: kind, refusal, the log's length in two bytes, then in four each the number returned, the output's length,
 // frames, clock calls and records.
-use crate::compare::{byte, word};
 use log_scan::answer::{LogAnswer, refusal, returned};
+
+// What is done with a case's log: it names the family that follows, is played, or is a VGM file to import.
+#[derive(Clone, Copy, PartialEq, Eq)]
+pub enum Kind {
+    Name,
+    Play,
+    Import,
+}
 
 // How to play a log, and what it must be answered.
 #[derive(Clone, Copy)]
 pub struct Case {
-    pub kind: u8,
+    pub kind: Kind,
+    // whether a digest stands for the output's bytes
+    pub digested: bool,
     pub refused: u8,
-    pub length: usize,
+    pub length: u16,
     pub number: u64,
     pub room: usize,
     pub frames: u64,
@@ -16,34 +25,49 @@ pub struct Case {
     pub records: u64,
 }
 
-pub fn case_of(head: &[u8]) -> Case {
-    Case {
-        kind: byte(head, 0),
-        refused: byte(head, 1),
-        length: (byte(head, 2) as usize) * 256 + byte(head, 3) as usize,
-        number: word(head, 4),
-        room: word(head, 8) as usize,
-        frames: word(head, 12),
-        clocks: word(head, 16),
-        records: word(head, 20),
+// The kinds are 0 for a name, 1 and 2 for a log, and those from 3 on for a VGM file; with an even one comes a digest.
+impl From<[[u8; 4]; 6]> for Case {
+    fn from(head: [[u8; 4]; 6]) -> Case {
+        let [
+            [kind, refused, high, low],
+            number,
+            room,
+            frames,
+            clocks,
+            records,
+        ] = head;
+        Case {
+            kind: match kind {
+                0 => Kind::Name,
+                1 | 2 => Kind::Play,
+                _ => Kind::Import,
+            },
+            digested: kind % 2 == 0,
+            refused,
+            length: u16::from_be_bytes([high, low]),
+            number: u64::from(u32::from_be_bytes(number)),
+            room: u32::from_be_bytes(room) as usize,
+            frames: u64::from(u32::from_be_bytes(frames)),
+            clocks: u64::from(u32::from_be_bytes(clocks)),
+            records: u64::from(u32::from_be_bytes(records)),
+        }
     }
 }
 
-// Bytes written: none with a refusal.
-pub fn written(case: Case) -> usize {
-    if case.refused == 0 {
-        case.number as usize
-    } else {
-        0
+impl Case {
+    // Bytes written: none with a refusal.
+    pub fn written(&self) -> usize {
+        if self.refused == 0 {
+            self.number as usize
+        } else {
+            0
+        }
     }
-}
 
-// How many bytes follow the log: the output's, or in kinds 2 and 4 their digest.
-pub fn bytes_after(case: Case) -> usize {
-    if case.kind % 2 == 0 {
-        return 8;
+    // How many bytes follow the log: the output's, or their digest's.
+    pub fn bytes_after(&self) -> usize {
+        if self.digested { 8 } else { self.written() }
     }
-    written(case)
 }
 
 // Whether a log that is played has the frames, clock calls and records of the case; a refusal has none.

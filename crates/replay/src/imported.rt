@@ -4,14 +4,9 @@ use log_vgm::import::{import_log, refusal, returned};
 
 // Imports the file in an output of as many bytes as the case says: whether the answer is the one of the case.
 pub fn import_is(case: Case, vgm: &[u8], out: &mut [u8]) -> bool {
-    let length = case.length;
-    let room = case.room;
-    if length <= vgm.len() {
-        if room <= out.len() {
-            let answer = import_log(&vgm[..length], &mut out[..room]);
-            let refused = refusal(answer) == case.refused as u64;
-            return refused & (returned(answer) == case.number);
-        }
-    }
-    false
+    let Some(log) = out.get_mut(..case.room) else {
+        return false;
+    };
+    let answer = import_log(vgm, log);
+    refusal(answer) == case.refused as u64 && returned(answer) == case.number
 }

@@ -2,74 +2,74 @@
 // compared with the Rust's answers to the same sequences (docs/EVIDENCE.md). Commands come from standard input, five bytes each.
 #![tactic(auto)]
 
+mod command;
 mod text;
 
-ghost use Rattle.std.specs.Prelude.{◌+◌, ◌<◌};
 ghost use Rattle.apu.specs.Held.{Held};
 
 use apu::Apu;
 use apu::registers::{Read, Write};
 use apu_clock::clock::{Answer, clock};
-use text::{print_frame, print_pcm, print_read, print_refused, print_start};
+use command::Command;
+use std::io::Read as _;
+use text::{Frame, print_line};
+
+// The most commands that are taken: those in 65,536 bytes.
+const MOST: usize = 65_536 / 5;
 
 // One clock call, whose frame is printed where it makes one.
-fn show_clock(unit: Apu, double: bool, divider: u8) -> Apu
+fn show_clock(rt: &impl Print, unit: Apu, double: bool, divider: u8) -> Apu
     requires { Held unit }
     ensures { Held result }
 {
-    let mut pulse1 = [0.0f32; 2];
-    let mut pulse2 = [0.0f32; 2];
-    let mut wave = [0.0f32; 2];
-    let mut noise = [0.0f32; 2];
-    let mut all = [0.0f32; 2];
+    let mut frame = Frame::SILENT;
     let clocked = clock(
         unit,
         double,
         divider,
         0,
-        &mut pulse1,
-        &mut pulse2,
-        &mut wave,
-        &mut noise,
-        &mut all,
+        &mut frame.pulse1,
+        &mut frame.pulse2,
+        &mut frame.wave,
+        &mut frame.noise,
+        &mut frame.all,
     );
     let answer = clocked.answer;
     let next = clocked.apu;
     match answer {
         Answer::Nothing => {}
-        Answer::Frame => print_frame(&pulse1, &pulse2, &wave, &noise, &all),
-        Answer::NoRoom => print_refused(),
+        Answer::Frame => print_line(rt, frame),
+        Answer::NoRoom => print_line(rt, "X"),
     }
     next
 }
 
 // So many clock calls with one divider.
-fn show_clocks(unit: Apu, double: bool, divider: u8, count: u16) -> Apu
+fn show_clocks(rt: &impl Print, unit: Apu, double: bool, divider: u8, count: u16) -> Apu
     requires { Held unit }
     ensures { Held result }
 {
     let mut next = unit;
-    let mut left = count;
-    while 0 < left {
-        next = show_clock(next, double, divider);
-        left -= 1;
+    for _ in 0..count {
+        next = show_clock(rt, next, double, divider);
     }
     next
 }
 
 // A new unit, by bit 0 DMG and by bit 1 past its boot program.
-fn show_start(start: u8) -> Apu
+fn show_start(rt: &impl Print, start: u8) -> Apu
     ensures { Held result }
 {
-    print_start(start);
+    print_line(rt, format_args!("U {start:02X}"));
+    let dmg = start % 2 == 1;
     if start / 2 % 2 == 1 {
-        Apu::new_skip_boot_rom(start % 2 == 1)
+        Apu::new_skip_boot_rom(dmg)
     } else {
-        Apu::new(start % 2 == 1)
+        Apu::new(dmg)
     }
 }
 
-fn show_write(unit: Apu, addr: u16, value: u8) -> Apu
+fn show_write(rt: &impl Print, unit: Apu, addr: u16, value: u8) -> Apu
     requires { Held unit }
     ensures { Held result }
 {
@@ -78,60 +78,59 @@ fn show_write(unit: Apu, addr: u16, value: u8) -> Apu
     let next = written.apu;
     match answer {
         Write::Done => {}
-        Write::WrongAddress => print_refused(),
+        Write::WrongAddress => print_line(rt, "X"),
     }
     next
 }
 
-fn show_read(unit: Apu, addr: u16) {
-    let answer = unit.read_register(addr);
-    match answer {
-        Read::Byte(b) => print_read(addr, b),
-        Read::WrongAddress => print_refused(),
+fn show_read(rt: &impl Print, unit: Apu, addr: u16) {
+    match unit.read_register(addr) {
+        Read::Byte(byte) => print_line(rt, format_args!("R {addr:04X} {byte:02X}")),
+        Read::WrongAddress => print_line(rt, "X"),
     }
 }
 
-// One command: 0 start, 1 write, 2 read, 3 clocks, any other both PCM reads.
-fn show(unit: Apu, command: u8, a: u8, b: u8, c: u8, d: u8) -> Apu
+fn show_pcm(rt: &impl Print, unit: Apu)
+    requires { Held unit }
+{
+    let pcm12 = unit.read_pcm12();
+    let pcm34 = unit.read_pcm34();
+    print_line(rt, format_args!("P {pcm12:02X} {pcm34:02X}"));
+}
+
+// One command, and the unit after it.
+fn show(rt: &impl Print, unit: Apu, command: Command) -> Apu
     requires { Held unit }
     ensures { Held result }
 {
-    if command == 0 {
-        return show_start(a);
+    match command {
+        Command::Start(start) => show_start(rt, start),
+        Command::Write { addr, value } => show_write(rt, unit, addr, value),
+        Command::Read { addr } => {
+            show_read(rt, unit, addr);
+            unit
+        }
+        Command::Clocks {
+            double,
+            divider,
+            count,
+        } => show_clocks(rt, unit, double, divider, count),
+        Command::Pcm => {
+            show_pcm(rt, unit);
+            unit
+        }
     }
-    if command == 1 {
-        return show_write(unit, join(a, b), c);
-    }
-    if command == 2 {
-        show_read(unit, join(a, b));
-        return unit;
-    }
-    if command == 3 {
-        return show_clocks(unit, a == 1, b, join(c, d));
-    }
-    print_pcm(unit.read_pcm12(), unit.read_pcm34());
-    unit
 }
 
-// Two bytes as a number, the high one first.
-fn join(high: u8, low: u8) -> u16 {
-    high as u16 * 256 + low as u16
-}
-
-fn main() {
-    let mut bytes = io::large_buffer();
-    let n = io::read_full(0, &mut bytes);
+// Each command as it is read; one that is cut short, or a read that fails, ends them.
+fn main(rt: HostRuntime) {
+    let mut input = rt.reader();
+    let mut command = [0; 5];
     let mut unit = Apu::new(true);
-    let mut at: usize = 0;
-    while at + 5 <= n {
-        unit = show(
-            unit,
-            bytes[at],
-            bytes[at + 1],
-            bytes[at + 2],
-            bytes[at + 3],
-            bytes[at + 4],
-        );
-        at += 5;
+    for _ in 0..MOST {
+        if input.read_exact(&mut command).is_err() {
+            break;
+        }
+        unit = show(&rt, unit, Command::from(command));
     }
 }

@@ -1,9 +1,0 @@
--- The log and the room are within their buffers. Assumes nothing.
-use Rattle.log_items.proofs.Stores.{prefix_counts}
-use Rattle.replay.proofs.answer_of.Goals as goal
-
-pub slice_bounds-play_log-end : goal.slice_bounds-play_log-end
-slice_bounds-play_log-end c = prefix_counts _ _ c.if-length-log.true
-
-pub slice_bounds-play_log-end-then-room-out-2 : goal.slice_bounds-play_log-end-then-room-out-2
-slice_bounds-play_log-end-then-room-out-2 c = prefix_counts _ _ c.if-room-out.true
