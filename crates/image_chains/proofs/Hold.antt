@@ -15,8 +15,8 @@ use Rattle.ground.specs.Pick.{pick}
 use Rattle.ground.proofs.Cases.{pick_holds}
 use Rattle.apu.specs.Held.{Whole}
 use Rattle.apu.specs.declared.Apu.{Apu}
+use Rattle.log_records.specs.Judge.{Judged}
 use Rattle.log_records.specs.Records.{version_of, records_of, listed}
-use Rattle.log_records.specs.declared.judge.Record.{Record}
 use Rattle.log_scan.specs.Scan.{wrong_in, summed, added}
 use Rattle.log_scan.specs.Answers.{is_done, done_as, or_wrong, scanned_as, within_room}
 use Rattle.log_scan.specs.declared.answer.LogAnswer.{LogAnswer}
@@ -110,7 +110,7 @@ counts_in (TooShort needed) = record { bytes = 0; frames = 0; calls = 0; records
 abbrev tell : ℕ → ℕ → Sums → Counts
 tell bytes frames sums = record { bytes = bytes; frames = frames; calls = sums.calls; records = sums.records }
 
-counts_append : (xs ys : List Record) (u : Apu)
+counts_append : (xs ys : List Judged) (u : Apu)
     → let v = unit_at_end xs u in
     tell (length (output xs u) + length (output ys v)) (made_by xs u + made_by ys v) (added (summed xs) (summed ys)) ≡ counts_of (xs ++ ys) u
 counts_append xs ys u =
@@ -208,7 +208,7 @@ module _ (s a b place : List ℕ) (room more : ℕ) (m n : Counts) (links : Link
   followed : Followed s a b kept more m n
   followed = record { counts = counts; output = out; image = image }
     where
-      row : List Record
+      row : List Judged
       row = listed a ++ listed b
 
       both_told : log_in (done_with (plus m n)) ≡ sum_of (answer_on u a room) (answer_on v b more)

@@ -7,7 +7,7 @@ use native.Mathlib.Nat.{add_assoc, add-zero, zero-add}
 use lib.ListN.{length, length-append}
 use Rattle.std.specs.Prelude.{Option, None, Some}
 use Rattle.std.specs.Option.{option_or}
-use Rattle.log_records.specs.declared.judge.Record.{Record}
+use Rattle.log_records.specs.Judge.{Judged}
 use Rattle.log_records.specs.declared.cut.Cut.TheVariants.{End, Short}
 use Rattle.log_scan.specs.declared.scan.Found.{Found}
 use Rattle.log_scan.specs.declared.scan.Sums.{Sums}
@@ -49,16 +49,16 @@ one_more : (n : ℕ) → 1 + n ≡ suc n
 one_more n = omega arith
 
 -- one row of records after another
-sum_append : (f : Record → ℕ) (xs ys : List Record) → sum_of f (xs ++ ys) ≡ sum_of f xs + sum_of f ys
+sum_append : (f : Judged → ℕ) (xs ys : List Judged) → sum_of f (xs ++ ys) ≡ sum_of f xs + sum_of f ys
 unfolding sum_of
 sum_append f [] ys = sym (zero-add (sum_of f ys))
 sum_append f (r ∷ xs) ys = ap (λ (n : ℕ). f r + n) (sum_append f xs ys) ∙ sym (add_assoc (f r) (sum_of f xs) (sum_of f ys))
 
-pub summed_append : (xs ys : List Record) → summed (xs ++ ys) ≡ added (summed xs) (summed ys)
+pub summed_append : (xs ys : List Judged) → summed (xs ++ ys) ≡ added (summed xs) (summed ys)
 summed_append xs ys = rw (length-append xs ys, sum_append asks xs ys, sum_append halves_of xs ys, sum_append read_bytes_of xs ys)
 
 -- THE LAW
-found_item : (p : ℕ) (r : Record) (rest : Parsed) → found_all (item p r rest) ≡ both (found_in p r) (found_all rest)
+found_item : (p : ℕ) (r : Judged) (rest : Parsed) → found_all (item p r rest) ≡ both (found_in p r) (found_all rest)
 unfolding wrong_in sum_of
 found_item p r rest = rw (one_more (length (unrolled rest)))
 
@@ -87,7 +87,7 @@ module _ {v : ℕ} {s : List ℕ} {at : ℕ} {t : Found} (g : Going v s at t) wh
       ap (λ (x : Sums). record { wrong = option_or t.wrong (Some at); sums = x }) (sym sums) ∙ rw (at_short v s at e) at g.state
 
   -- the next record, and where the one after it begins
-  module _ (r : Record) (next : ℕ) (is : records_from v s at ≡ item at r (records_from v s next)) where
+  module _ (r : Judged) (next : ℕ) (is : records_from v s at ≡ item at r (records_from v s next)) where
     abbrev f : Found
     f = found_in at r
 

@@ -7,9 +7,8 @@ use mathlib.Core.Bool.{true, false}
 use native.Mathlib.Omega.{arith}
 use borrow.Author.Tests.{le-ltb}
 use lib.ListN.{length, drop, length-append, get_or-append}
-use Rattle.std.specs.Prelude.{Option, None, Some, is_some}
+use Rattle.std.specs.Prelude.{Option, None, Some, is_some, Ok, Err}
 use Rattle.std.specs.Option.{option_or}
-use Rattle.log_records.specs.declared.judge.Record.TheVariants.{Write, Read, Clock, Pcm, Wrong}
 use Rattle.log_records.specs.Records.{Parsed, done, short, item, records_from, version_of, records_of, listed}
 use Rattle.log_records.proofs.Joining.{placeless, joined, whole, records_join, version_join, listed_join}
 use Rattle.log_scan.specs.Scan.{wrong_mark, wrong_in, summed, added}
@@ -36,11 +35,8 @@ placeless_wrong : (p : Parsed) → is_some (wrong_in (placeless p)) ≡ is_some 
 unfolding wrong_in placeless
 placeless_wrong done = refl
 placeless_wrong (short p) = refl
-placeless_wrong (item p (Write addr value) rest) = placeless_wrong rest
-placeless_wrong (item p (Read addr) rest) = placeless_wrong rest
-placeless_wrong (item p (Clock d v k) rest) = placeless_wrong rest
-placeless_wrong (item p Pcm rest) = placeless_wrong rest
-placeless_wrong (item p Wrong rest) = refl
+placeless_wrong (item p (Ok r) rest) = placeless_wrong rest
+placeless_wrong (item p (Err fault) rest) = refl
 
 placeless_clear : (p : Parsed) → wrong_in p ≡ None → wrong_in (placeless p) ≡ None
 placeless_clear p e = no_place (wrong_in (placeless p)) (placeless_wrong p ∙ ap is_some e)

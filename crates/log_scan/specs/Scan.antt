@@ -1,21 +1,17 @@
 -- What the scan, the pass over a log before it is played, finds in some records: the first wrong one, and sums;
 -- of two rows, from what each has. Assumes nothing.
-use Rattle.std.specs.Prelude.{ℕ, ◌+◌, ◌^◌, ◌<◌, List, length, Option, None, Some}
+use Rattle.std.specs.Prelude.{ℕ, ◌+◌, ◌^◌, ◌<◌, List, length, Option, None, Some, Ok, Err}
 use Rattle.std.specs.Option.{option_or}
-use Rattle.log_records.specs.declared.judge.Record.{Record}
-use Rattle.log_records.specs.declared.judge.Record.TheVariants.{Write, Read, Clock, Pcm, Wrong}
+use Rattle.log_records.specs.Judge.{Judged}
 use Rattle.log_scan.specs.declared.scan.Sums.{Sums}
 use Rattle.log_scan.specs.declared.scan.Found.{Found}
 use Rattle.log_records.specs.Records.{Parsed, done, short, item, unrolled}
 use Rattle.log_scan.specs.Sums.{asks, halves_of, read_bytes_of, sum_of}
 
 -- 5: "place of its first length byte"
-abbrev pub wrong_mark : ℕ → Record → Option ℕ
-wrong_mark place (Write addr value) = None
-wrong_mark place (Read addr) = None
-wrong_mark place (Clock double divider count) = None
-wrong_mark place Pcm = None
-wrong_mark place Wrong = Some place
+abbrev pub wrong_mark : ℕ → Judged → Option ℕ
+wrong_mark place (Ok r) = None
+wrong_mark place (Err fault) = Some place
 
 -- "first such record"; one that is cut short is wrong
 unfoldable pub wrong_in : Parsed → Option ℕ
@@ -24,7 +20,7 @@ wrong_in (short p) = Some p
 wrong_in (item p r rest) = option_or (wrong_mark p r) (wrong_in rest)
 
 -- the sums over a row of records
-abbrev pub summed : List Record → Sums
+abbrev pub summed : List Judged → Sums
 summed l = record { records = length l; calls = sum_of asks l; halves = sum_of halves_of l; read_bytes = sum_of read_bytes_of l }
 
 -- what a row of records has
@@ -35,8 +31,11 @@ found_all t = record { wrong = wrong_in t; sums = summed (unrolled t) }
 abbrev pub one_record : ℕ → ℕ → ℕ → Sums
 one_record calls halves bytes = record { records = 1; calls = calls; halves = halves; read_bytes = bytes }
 
-abbrev pub found_in : ℕ → Record → Found
-found_in place r = record { wrong = wrong_mark place r; sums = one_record (asks r) (halves_of r) (read_bytes_of r) }
+abbrev pub sums_in : Judged → Sums
+sums_in r = one_record (asks r) (halves_of r) (read_bytes_of r)
+
+abbrev pub found_in : ℕ → Judged → Found
+found_in place r = record { wrong = wrong_mark place r; sums = sums_in r }
 
 -- what no records have
 abbrev pub nothing : Found

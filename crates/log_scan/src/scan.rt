@@ -1,14 +1,14 @@
 // The scan of a log's records: the first wrong one, and sums over all. Nothing is played and nothing written; what each record has is joined to
 // what those before it had.
-ghost use Rattle.std.specs.Prelude.{◌≡◌, ◌*◌, ◌≤◌, length};
+ghost use Rattle.std.specs.Prelude.{◌≡◌, ◌*◌, ◌≤◌, length, Ok};
 ghost use Rattle.clocks.specs.Calls.{half_clocks_of};
 ghost use Rattle.log_records.specs.Judge.{judge_of};
 ghost use Rattle.log_records.specs.Records.{records_from};
-ghost use Rattle.log_scan.specs.Scan.{Fits, added, both, one_record, found_in, found_all};
+ghost use Rattle.log_scan.specs.Scan.{Fits, added, both, one_record, sums_in, found_in, found_all};
 
 use clocks::sample_counter::half_clocks;
 use log_records::cut::{Cut, cut_at};
-use log_records::judge::{Record, clocks_at, judge};
+use log_records::judge::{Record, WrongRecord, clocks_at, judge};
 
 // Over some records: how many they are, the clock calls that they ask for, the half-clocks of those, and the bytes that reads make.
 #[derive(Clone, Copy, Default)]
@@ -70,32 +70,28 @@ fn one_clock(double: bool, count: u16) -> Sums
     one_record(calls, calls * (half_clocks(double) as u64), 0)
 }
 
+// Those over a right record.
+fn sums_in(taken: Record) -> Sums
+    ensures { result ≡ sums_in (Ok taken) }
+{
+    match taken {
+        Record::Write { .. } => one_record(0, 0, 0),
+        Record::Read { .. } => one_record(0, 0, 2),
+        Record::Clock { double, count, .. } => one_clock(double, count),
+        Record::Pcm => one_record(0, 0, 3),
+    }
+}
+
 // What a record's body has in a log of a version, its first length byte at the place.
 fn scan_record(version: u8, body: &[u8], place: usize) -> Found
     ensures { result ≡ found_in place (judge_of version body.now) }
 {
     match judge(version, body) {
-        Record::Write { addr: _, value: _ } => Found {
+        Ok(taken) => Found {
             wrong: None,
-            sums: one_record(0, 0, 0),
+            sums: sums_in(taken),
         },
-        Record::Read { addr: _ } => Found {
-            wrong: None,
-            sums: one_record(0, 0, 2),
-        },
-        Record::Clock {
-            double,
-            divider: _,
-            count,
-        } => Found {
-            wrong: None,
-            sums: one_clock(double, count),
-        },
-        Record::Pcm => Found {
-            wrong: None,
-            sums: one_record(0, 0, 3),
-        },
-        Record::Wrong => Found {
+        Err(WrongRecord) => Found {
             wrong: Some(place),
             sums: one_record(0, 0, 0),
         },
