@@ -2,8 +2,6 @@
 ghost use Rattle.std.specs.Prelude.{◌≡◌};
 ghost use Rattle.log_vgm.specs.Commands.{store_of, long_of, waits_of, short_of, next_at};
 
-use crate::bytes::two;
-
 // A value for the register so many above FF10, or a wait of so many samples at 44,100 a second.
 #[derive(Clone, Copy)]
 pub enum Command {
@@ -37,7 +35,7 @@ fn store_of(register: u8, value: u8) -> Result<Option<Taken>, NotTaken>
 fn long_of(low: u8, high: u8) -> Taken
     ensures { result ≡ long_of low high }
 {
-    let samples = two(low, high);
+    let samples = u16::from_le_bytes([low, high]);
     Taken {
         command: Command::Wait { samples },
         more: 2,
@@ -71,21 +69,13 @@ fn short_of(first: u8) -> Result<Option<Taken>, NotTaken>
 pub fn next_at(vgm: &[u8], at: usize) -> Result<Option<Taken>, NotTaken>
     ensures { result ≡ next_at vgm.now at }
 {
-    let n = vgm.len();
-    if n <= at {
+    let Some(rest) = vgm.get(at..) else {
         return Err(NotTaken);
+    };
+    match rest {
+        [0xB3, register, value, ..] => store_of(*register, *value),
+        [0x61, low, high, ..] => Ok(Some(long_of(*low, *high))),
+        [first, ..] => short_of(*first),
+        [] => Err(NotTaken),
     }
-    let first = vgm[at];
-    if (first != 0xB3) & (first != 0x61) {
-        return short_of(first);
-    }
-    if 3 <= n - at {
-        let second = vgm[at + 1];
-        let third = vgm[at + 2];
-        if first == 0xB3 {
-            return store_of(second, third);
-        }
-        return Ok(Some(long_of(second, third)));
-    }
-    Err(NotTaken)
 }

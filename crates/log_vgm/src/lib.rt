@@ -1,7 +1,6 @@
 // A VGM file as an access log of version 2: its header, its commands, the records that they become, and the log's bytes.
 #![tactic(auto)]
 
-mod bytes; // bytes.rt: numbers in a VGM file
 mod clockwork; // clockwork.rt: the clock calls that samples become
 mod command; // command.rt: the command at a place
 mod header; // header.rt: whether the header is taken, and where the commands start

@@ -2,23 +2,28 @@
 use native.Mathlib.Omega.{arith}
 use mathlib.Core.Path.{◌≡◌, refl, ap, ◌∙◌}
 use mathlib.Core.List.{[]}
+use Prim.Native.Nat.{ℕ, ◌+◌}
 use Rattle.std.specs.Prelude.{Option, None, Ok}
 use Rattle.log_vgm.specs.Log.{bytes_on}
 use Rattle.log_vgm.proofs.Walking.{taken_fits, at_taken, at_end, at_bad}
-use Rattle.log_vgm.proofs.Putting.{next_fits, put_more, ended_put, stopped_put}
+use Rattle.log_vgm.proofs.Putting.{part_long, part_put, next_fits, put_more, ended_put, stopped_put}
 use Rattle.log_vgm.proofs.write.put_commands.Goals as goal
 
 pub loop-taken-init : goal.loop-taken-init
 unfolding bytes_on
-loop-taken-init c = record { gone = []; here = omega arith; bytes = refl; rest = refl; room = c.requires }
+loop-taken-init c = record { gone = []; here = refl; bytes = refl; rest = refl; room = c.requires }
 
 pub put_command-at-requires : goal.put_command-at-requires
 put_command-at-requires c =
     let told = c.in-Ok-Some.is ∙ ap (λ (o : Option _). Ok o) c.in-Ok-Some.field-0-is in
-    record {
-      low = (taken_fits _ _ c.next_at.ensures told).1;
-      command_in_bounds = next_fits c.loop-taken.invariant _ (at_taken _ _ c.next_at.ensures told);
-    }
+    let fits = next_fits c.loop-taken.invariant _ (at_taken _ _ c.next_at.ensures told) in
+    record { low = (taken_fits _ _ c.next_at.ensures told).1; command_in_bounds = rw (part_long c.loop-taken.out c.loop-taken.at) (omega (arith, fits)) }
+
+pub overflow_add-at : goal.overflow_add-at
+overflow_add-at c =
+    let told = c.in-Ok-Some.is ∙ ap (λ (o : Option _). Ok o) c.in-Ok-Some.field-0-is in
+    let fits = next_fits c.loop-taken.invariant _ (at_taken _ _ c.next_at.ensures told) in
+    omega (arith, fits, c.put_command-at.ensures.value)
 
 pub walked-walk-requires : goal.walked-walk-requires
 walked-walk-requires c =
@@ -32,9 +37,10 @@ loop-taken-smaller c =
 
 pub loop-taken-preserved : goal.loop-taken-preserved
 loop-taken-preserved c =
-    let told = c.in-Ok-Some.is ∙ ap (λ (o : Option _). Ok o) c.in-Ok-Some.field-0-is in
+    let step = at_taken _ _ c.next_at.ensures (c.in-Ok-Some.is ∙ ap (λ (o : Option _). Ok o) c.in-Ok-Some.field-0-is) in
+    let fits = next_fits c.loop-taken.invariant _ step in
     let put = c.put_command-at.ensures in
-    put_more c.loop-taken.invariant _ (at_taken _ _ c.next_at.ensures told) c.walked-walk.ensures put.out_after put.value
+    put_more c.loop-taken.invariant _ step c.walked-walk.ensures (part_put _ _ _ fits put.out_after) (ap (λ (n : ℕ). c.loop-taken.at + n) put.value)
 
 pub returns-in_default : goal.returns-in_default
 returns-in_default c =
