@@ -12,10 +12,11 @@ use Rattle.channel_pulse.proofs.Ranges.{pulse_fresh_held, pulse_envelope_held, p
 use Rattle.channel_groups.specs.PulseGroups as pulse
 use Rattle.channel_groups.specs.WaveGroups as wave
 use Rattle.channel_groups.specs.NoiseGroups as noise
-use Rattle.channel_groups.specs.declared.pulse_group.PulseGroup.{PulseGroup}
-use Rattle.channel_groups.specs.declared.wave_group.WaveGroup.{WaveGroup}
-use Rattle.channel_groups.specs.declared.noise_group.NoiseGroup.{NoiseGroup}
+use Rattle.channel_groups.specs.PulseGroups.{PulseGroup}
+use Rattle.channel_groups.specs.WaveGroups.{WaveGroup}
+use Rattle.channel_groups.specs.NoiseGroups.{NoiseGroup}
 use Rattle.channel_groups.proofs.Ranges.{pulse_group_fresh_held, wave_group_fresh_held, noise_group_fresh_held}
+use Rattle.channel_groups.specs.Keeps.{pulse_keeps, wave_keeps, noise_keeps}
 use Rattle.channel_groups.proofs.Ranges as group
 use Rattle.clocks.specs.Position.{PositionHeld}
 use Rattle.apu.specs.Held.{Held}
@@ -127,10 +128,10 @@ unfolding silenced
 silenced_held a h =
     unit_registers_held _
     (groups_held a h _ _ _ _
-    (group.silenced_held group.pulse_keeps a.pulse1 h.pulse1)
-    (group.silenced_held group.pulse_keeps a.pulse2 h.pulse2)
-    (group.silenced_held group.wave_keeps a.wave h.wave)
-    (group.silenced_held group.noise_keeps a.noise h.noise))
+    (group.silenced_held pulse_keeps a.pulse1 h.pulse1)
+    (group.silenced_held pulse_keeps a.pulse2 h.pulse2)
+    (group.silenced_held wave_keeps a.wave h.wave)
+    (group.silenced_held noise_keeps a.noise h.noise))
     _ _ false
 
 restarted_held : (a : Apu) → Held a → Held (restarted a)
@@ -150,10 +151,10 @@ refilled_held : (a : Apu) → Held a → Held (refilled a)
 unfolding refilled
 refilled_held a h =
     groups_held a h _ _ _ _
-    (group.refilled_held group.pulse_keeps a.pulse1 h.pulse1)
-    (group.refilled_held group.pulse_keeps a.pulse2 h.pulse2)
-    (group.refilled_held group.wave_keeps a.wave h.wave)
-    (group.refilled_held group.noise_keeps a.noise h.noise)
+    (group.refilled_held pulse_keeps a.pulse1 h.pulse1)
+    (group.refilled_held pulse_keeps a.pulse2 h.pulse2)
+    (group.refilled_held wave_keeps a.wave h.wave)
+    (group.refilled_held noise_keeps a.noise h.noise)
 
 power_written_held : (a : Apu) (v : ℕ) → Held a → Held (power_written a v)
 unfolding power_written powered_on powered_off

@@ -6,9 +6,9 @@ use Rattle.ground.proofs.Cases.{both_ways}
 use Rattle.channel_groups.specs.Groups as any
 use Rattle.channel_groups.specs.PulseGroups as pulse
 use Rattle.channel_groups.specs.WaveGroups as wave
-use Rattle.channel_groups.specs.declared.pulse_group.PulseGroup.{PulseGroup}
-use Rattle.channel_groups.specs.declared.wave_group.WaveGroup.{WaveGroup}
-use Rattle.channel_groups.specs.declared.noise_group.NoiseGroup.{NoiseGroup}
+use Rattle.channel_groups.specs.PulseGroups.{PulseGroup}
+use Rattle.channel_groups.specs.WaveGroups.{WaveGroup}
+use Rattle.channel_groups.specs.NoiseGroups.{NoiseGroup}
 use Rattle.channel_groups.proofs.Untouched.{pulse_untouched, wave_untouched, noise_untouched}
 use Rattle.apu.specs.Registers.{sound_written, gated_written, ram_written, power_written, written_at, write_of}
 use Rattle.apu.specs.Registers.{zeroed, silenced, powered_off, restarted, refilled, powered_on}

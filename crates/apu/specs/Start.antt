@@ -7,8 +7,8 @@ use Rattle.channel_parts.specs.Envelope as envelope
 use Rattle.channel_parts.specs.Length as lengths
 use Rattle.channel_pulse.specs.Pulse.{duty_written}
 use Rattle.channel_pulse.specs.With.{with_on, with_envelope}
-use Rattle.channel_groups.specs.declared.pulse_group.PulseGroup.{PulseGroup}
-use Rattle.channel_groups.specs.declared.noise_group.NoiseGroup.{NoiseGroup}
+use Rattle.channel_groups.specs.PulseGroups.{PulseGroup}
+use Rattle.channel_groups.specs.NoiseGroups.{NoiseGroup}
 use Rattle.channel_groups.specs.PulseGroups as pulse
 use Rattle.channel_groups.specs.WaveGroups as wave
 use Rattle.channel_groups.specs.NoiseGroups as noise

@@ -1,8 +1,8 @@
 -- The unit with one thing written anew, all else as it was: its fields in three rows, and each setter by its row's. None of these is a rule. Assumes nothing.
 use Rattle.std.specs.Prelude.{ℕ, Bool, ℤ, Float}
-use Rattle.channel_groups.specs.declared.pulse_group.PulseGroup.{PulseGroup}
-use Rattle.channel_groups.specs.declared.wave_group.WaveGroup.{WaveGroup}
-use Rattle.channel_groups.specs.declared.noise_group.NoiseGroup.{NoiseGroup}
+use Rattle.channel_groups.specs.PulseGroups.{PulseGroup}
+use Rattle.channel_groups.specs.WaveGroups.{WaveGroup}
+use Rattle.channel_groups.specs.NoiseGroups.{NoiseGroup}
 use Rattle.apu.specs.declared.Apu.{Apu}
 
 -- the four groups anew

@@ -13,24 +13,25 @@ use Rattle.channel_parts.specs.Length as lengths
 use Rattle.channel_parts.specs.declared.length.Clocked.{Clocked}
 use Rattle.channel_groups.specs.Groups as any
 use Rattle.channel_groups.specs.Groups.{Kind}
+use Rattle.channel_groups.specs.declared.group.Group.{Group}
 use Rattle.channel_groups.specs.PulseGroups as pulse
 use Rattle.channel_groups.specs.WaveGroups as wave
 use Rattle.channel_groups.specs.NoiseGroups as noise
-use Rattle.channel_groups.specs.declared.pulse_group.PulseGroup.{PulseGroup}
-use Rattle.channel_groups.specs.declared.wave_group.WaveGroup.{WaveGroup}
-use Rattle.channel_groups.specs.declared.noise_group.NoiseGroup.{NoiseGroup}
+use Rattle.channel_groups.specs.PulseGroups.{PulseGroup}
+use Rattle.channel_groups.specs.WaveGroups.{WaveGroup}
+use Rattle.channel_groups.specs.NoiseGroups.{NoiseGroup}
 use Rattle.apu.specs.With.{with_position}
 use Rattle.apu.specs.declared.Apu.{Apu}
 use Rattle.apu_clock.specs.Sequencer.{lengths_clocked, sweep_clocked, envelopes_clocked, advanced, counts_of, idles_of}
 
 -- ---- a length clock where no length counts
-still : {G C : Type 0} (k : Kind G C) (g : G) → (k.length g).counter_decrease_enable ≡ false
-    → any.length_clocked k g ≡ k.put (k.converter g) (k.length g) (k.switched (k.channel g) (k.on (k.channel g)))
+still : {C M : Type 0} (k : Kind C M) (g : Group C) → g.length.counter_decrease_enable ≡ false
+    → any.length_clocked k g ≡ any.with_channel g (k.switched g.channel (k.on g.channel))
 unfolding any.length_clocked lengths.clocked
 still k g e =
-    let c = k.channel g in
+    let c = g.channel in
     ap (λ (x : Clocked). any.length_counted k g x c) (pick_false _ _ _ e)
-    ∙ ap (λ (b : Bool). k.put (k.converter g) (k.length g) (k.switched c b)) (and_true (k.on c))
+    ∙ ap (λ (b : Bool). any.with_channel g (k.switched c b)) (and_true (k.on c))
   where
     and_true : (b : Bool) → (b && true) ≡ b
     and_true true = refl

@@ -1,6 +1,6 @@
 -- How many calls of a record see one divider bit: all of them where the divider stands, and where it runs those up to the bit's next change. Assumes nothing.
 use Prim.Native.Nat.{ℕ, zero, suc, ◌+◌, ◌-◌, ◌*◌, ◌/◌, ◌%◌, ◌<◌, ◌≤◌}
-use mathlib.Core.Path.{◌≡◌, sym, ap, ◌∙◌}
+use mathlib.Core.Path.{◌≡◌, refl, sym, ap, ◌∙◌}
 use mathlib.Core.Bool.{Bool, true, false}
 use native.Mathlib.Nat.{add-zero, add-suc, suc-add}
 use native.Mathlib.Omega.{arith}
@@ -12,18 +12,16 @@ use Rattle.apu_run.specs.Working.{Take}
 use Rattle.log_records.specs.Divider.{divider_at}
 use Rattle.apu_run.specs.Owed.{change_of, OneBit}
 use Rattle.log_records.specs.declared.divider.Divider.{Divider}
+use Rattle.log_records.specs.declared.divider.Divider.TheVariants.{Standing, Running}
 use Rattle.apu_run.proofs.Rows.{call_on, rows, rows_none, rows_first}
 use Rattle.apu_run.proofs.Beats.{call_by, call-by}
 
 -- ---- the divider stands
-pub stands : (double : Bool) (d : Divider) (i k : ℕ) → d.runs ≡ false → OneBit double d i k
-unfolding divider_at pick
-stands double d i k e j l = rw e
+pub stands : (double : Bool) (byte i k : ℕ) → OneBit double (Standing byte) i k
+unfolding divider_at
+stands double byte i k j l = refl
 
 -- ---- it runs: the bit is one of the number byte × 64 + phase + i
-abbrev pub place_of : Divider → ℕ → ℕ
-place_of d i = d.byte * 64 + d.phase + i
-
 place_is : (b p i : ℕ) → b + (p + i) / 64 ≡ (b * 64 + p + i) / 64
 place_is b p i = omega arith
 
@@ -36,27 +34,27 @@ bit_11 x = omega arith
 unfoldable place_bit : Bool → ℕ → Bool
 place_bit double x = pick double (eqb (x / 2048 % 2) 1) (eqb (x / 1024 % 2) 1)
 
-runs_bit : (double : Bool) (d : Divider) (i : ℕ) → d.runs ≡ true → bit_of double (divider_at d i) ≡ place_bit double (place_of d i)
+runs_bit : (double : Bool) (byte phase i : ℕ) → bit_of double (divider_at (Running byte phase) i) ≡ place_bit double (byte * 64 + phase + i)
 unfolding divider_at bit_of place_bit pick
-runs_bit double d i e = rw (e, place_is d.byte d.phase i) (go double)
+runs_bit double byte phase i = rw (place_is byte phase i) (go double)
   where
     x : ℕ
-    x = place_of d i
+    x = byte * 64 + phase + i
 
     go : (double : Bool)
         → pick double (eqb (x / 64 % 256 / 32 % 2) 1) (eqb (x / 64 % 256 / 16 % 2) 1) ≡ pick double (eqb (x / 2048 % 2) 1) (eqb (x / 1024 % 2) 1)
     go true = ap (λ (n : ℕ). eqb n 1) (bit_11 x)
     go false = ap (λ (n : ℕ). eqb n 1) (bit_10 x)
 
-pub runs : (double : Bool) (d : Divider) (i k : ℕ) → d.runs ≡ true → k ≤ change_of double (place_of d i) → OneBit double d i k
+pub runs : (double : Bool) (byte phase i k : ℕ) → k ≤ change_of double (byte * 64 + phase + i) → OneBit double (Running byte phase) i k
 unfolding change_of place_bit pick
-runs double d i k e h j l = runs_bit double d (i + j) e ∙ go double h ∙ sym (runs_bit double d i e)
+runs double byte phase i k h j l = runs_bit double byte phase (i + j) ∙ go double h ∙ sym (runs_bit double byte phase i)
   where
     x : ℕ
-    x = place_of d i
+    x = byte * 64 + phase + i
 
     y : ℕ
-    y = place_of d (i + j)
+    y = byte * 64 + phase + (i + j)
 
     near : (b p i j k : ℕ) → j < k → k ≤ 1024 - (b * 64 + p + i) % 1024 → (b * 64 + p + (i + j)) / 1024 ≡ (b * 64 + p + i) / 1024
     near b p i j k l h = omega arith
@@ -66,8 +64,8 @@ runs double d i k e h j l = runs_bit double d (i + j) e ∙ go double h ∙ sym 
 
     go : (double : Bool) → k ≤ pick double (2048 - x % 2048) (1024 - x % 1024)
         → pick double (eqb (y / 2048 % 2) 1) (eqb (y / 1024 % 2) 1) ≡ pick double (eqb (x / 2048 % 2) 1) (eqb (x / 1024 % 2) 1)
-    go true h = ap (λ (n : ℕ). eqb (n % 2) 1) (far d.byte d.phase i j k l h)
-    go false h = ap (λ (n : ℕ). eqb (n % 2) 1) (near d.byte d.phase i j k l h)
+    go true h = ap (λ (n : ℕ). eqb (n % 2) 1) (far byte phase i j k l h)
+    go false h = ap (λ (n : ℕ). eqb (n % 2) 1) (near byte phase i j k l h)
 
 -- a change is ahead by a call at least
 pub change_some : (double : Bool) (x : ℕ) → 1 ≤ change_of double x

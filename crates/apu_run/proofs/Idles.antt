@@ -12,9 +12,7 @@ use Rattle.ground.proofs.Timers.{pick_ap, iterate_part, iterate_add, iterate_hol
 use Rattle.clocks.specs.Counter.{every_at, tick_by}
 use Rattle.clocks.specs.Position.{next_of}
 use Rattle.clocks.specs.declared.sample_counter.Ticked.{Ticked}
-use Rattle.channel_groups.specs.PulseGroups as pulse
-use Rattle.channel_groups.specs.WaveGroups as wave
-use Rattle.channel_groups.specs.NoiseGroups as noise
+use Rattle.channel_groups.specs.Groups as any
 use Rattle.apu.specs.With.{with_clocks, with_position}
 use Rattle.apu.specs.declared.Apu.{Apu}
 use Rattle.apu.proofs.Ranges.{position_held}
@@ -61,7 +59,7 @@ ran_position n a = ap (λ (t : Take). t.apu.sequencer_position) (ran_placed n a.
 
 -- ---- whether a length counts
 working_counts : (a : Apu) → counts_of (working a) ≡ counts_of a
-unfolding working passing channels_clocked pushed counts_of pulse.clocked wave.clocked noise.clocked pulse.sounded wave.sounded noise.sounded
+unfolding working passing channels_clocked pushed counts_of any.clocked any.sounded
 working_counts a = both_ways Same _ first first
   where
     Same : Apu → Type 0

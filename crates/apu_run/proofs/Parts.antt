@@ -21,12 +21,13 @@ use Rattle.channel_noise.specs.Noise as noise_channel
 use Rattle.channel_noise.specs.Phase.{noise_phase_clocked}
 use Rattle.channel_noise.proofs.Phases.{noise_phase_part}
 use Rattle.channel_noise.specs.declared.phase.NoisePhase.{NoisePhase}
+use Rattle.channel_groups.specs.Groups as any
 use Rattle.channel_groups.specs.PulseGroups as pulse
 use Rattle.channel_groups.specs.WaveGroups as wave
 use Rattle.channel_groups.specs.NoiseGroups as noise
-use Rattle.channel_groups.specs.declared.pulse_group.PulseGroup.{PulseGroup}
-use Rattle.channel_groups.specs.declared.wave_group.WaveGroup.{WaveGroup}
-use Rattle.channel_groups.specs.declared.noise_group.NoiseGroup.{NoiseGroup}
+use Rattle.channel_groups.specs.PulseGroups.{PulseGroup}
+use Rattle.channel_groups.specs.WaveGroups.{WaveGroup}
+use Rattle.channel_groups.specs.NoiseGroups.{NoiseGroup}
 use Rattle.log_items.specs.Items.{mix_item}
 use Rattle.apu.specs.With.{with_clocks}
 use Rattle.apu.specs.declared.Apu.{Apu}
@@ -71,17 +72,17 @@ take_at u p = record { apu = put_back u p.1.0 p.1.1 p.0; bytes = p.1.2 }
 -- ---- the channels
 pulse_part : (g : PulseGroup) (d : Converter) (t : PulsePhase)
     → pulse.clocked (pulse_with g d t) ≡ pulse_with g d (pulse_phase_clocked g.channel.first_trigger (pulse_channel.reload_of g.channel) t)
-unfolding pulse.clocked
+unfolding any.clocked
 pulse_part g d t = ap (pulse.with_channel (pulse_with g d t)) (pulse_phase_part g.channel t)
 
 wave_part : (g : WaveGroup) (d : Converter) (t : WavePhase)
     → wave.clocked (wave_with g d t) ≡ wave_with g d (wave_phase_clocked (wave_channel.reload_of g.channel) t)
-unfolding wave.clocked
+unfolding any.clocked
 wave_part g d t = ap (wave.with_channel (wave_with g d t)) (wave_phase_part g.channel t)
 
 noise_part : (g : NoiseGroup) (d : Converter) (t : NoisePhase)
     → noise.clocked (noise_with g d t) ≡ noise_with g d (noise_phase_clocked g.channel.step_mode_7_bits (noise_channel.reload_of g.channel) t)
-unfolding noise.clocked
+unfolding any.clocked
 noise_part g d t = ap (noise.with_channel (noise_with g d t)) (noise_phase_part g.channel t)
 
 module _ (u : Apu) where
@@ -112,7 +113,7 @@ module _ (u : Apu) where
   -- ---- a frame
   push_part : (m : Phases) (k : Converters) (c : Float) → let s = frame_step_of (settings_of u) m k in
       ◌≡◌ {A = Framed} (pushed (put_back u m k c)) (record { apu = put_back u m s.converters c; mix = s.mix })
-  unfolding pushed pulse.sounded wave.sounded noise.sounded frame_step_of
+  unfolding pushed any.sounded frame_step_of
   push_part m k c = refl
 
   -- ---- a working clock on a unit whose parts were put back moves those parts

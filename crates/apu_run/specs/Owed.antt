@@ -1,6 +1,6 @@
 -- Calls that see one divider bit, as so many working clocks, from document 01, "Steps of a clock call". For the code and its proof alone: what a record's calls
 -- do is said in Calls.antt. Assumes nothing.
-use Rattle.std.specs.Prelude.{◌≡◌, Bool, false, not, ◌&&◌, ◌||◌, ℕ, ◌+◌, ◌-◌, ◌*◌, ◌/◌, ◌%◌, ◌<◌, eqb, leb}
+use Rattle.std.specs.Prelude.{◌≡◌, Bool, false, not, ◌&&◌, ◌||◌, ℕ, ◌+◌, ◌-◌, ◌*◌, ◌/◌, ◌%◌, ◌<◌, eqb, min}
 use Rattle.ground.specs.Pick.{pick}
 use Rattle.clocks.specs.Metered.{gained}
 use Rattle.apu.specs.With.{with_clocks, with_bit}
@@ -8,6 +8,7 @@ use Rattle.apu_clock.specs.Sequencer.{bit_of, advanced}
 use Rattle.apu.specs.declared.Apu.{Apu}
 use Rattle.log_records.specs.Divider.{divider_at}
 use Rattle.log_records.specs.declared.divider.Divider.{Divider}
+use Rattle.log_records.specs.declared.divider.Divider.TheVariants.{Standing, Running}
 use Rattle.apu_run.specs.declared.calls.Met.{Met}
 
 -- how far "divider bit 4 (5 in double speed)" is from its next change, in calls, 64 of which are one of the divider
@@ -16,9 +17,8 @@ change_of double place = pick double (2048 - place % 2048) (1024 - place % 1024)
 
 -- of so many calls from call i on: where the divider runs, those up to the bit's next change; where it stands, all
 abbrev pub same_of : Bool → Divider → ℕ → ℕ → ℕ
-same_of double d i count =
-    let change = change_of double (d.byte * 64 + d.phase + i) in
-    pick d.runs (pick (leb count change) count change) count
+same_of double (Standing byte) i count = count
+same_of double (Running byte phase) i count = min (change_of double (byte * 64 + phase + i)) count
 
 -- k calls from call i on see one bit
 abbrev pub OneBit : Bool → Divider → ℕ → ℕ → Type 0

@@ -8,9 +8,9 @@ use Rattle.channel_wave.specs.Wave as wave
 use Rattle.channel_wave.specs.Phase.{WavePhaseHeld, wave_phase_of, with_wave_phase, wave_phase_clocked}
 use Rattle.channel_noise.specs.Noise as noise
 use Rattle.channel_noise.specs.Phase.{NoisePhaseHeld, noise_phase_of, with_noise_phase, noise_phase_clocked}
-use Rattle.channel_groups.specs.declared.pulse_group.PulseGroup.{PulseGroup}
-use Rattle.channel_groups.specs.declared.wave_group.WaveGroup.{WaveGroup}
-use Rattle.channel_groups.specs.declared.noise_group.NoiseGroup.{NoiseGroup}
+use Rattle.channel_groups.specs.PulseGroups.{PulseGroup}
+use Rattle.channel_groups.specs.WaveGroups.{WaveGroup}
+use Rattle.channel_groups.specs.NoiseGroups.{NoiseGroup}
 use Rattle.channel_pulse.specs.declared.phase.PulsePhase.{PulsePhase}
 use Rattle.channel_wave.specs.declared.phase.WavePhase.{WavePhase}
 use Rattle.channel_noise.specs.declared.phase.NoisePhase.{NoisePhase}

@@ -42,15 +42,13 @@ pub fn same_bit(double: bool, divider: Divider, i: u32, count: u32) -> u32
     ensures lower_bound { (1 ≤ result) × (result ≤ count) }
     ensures one_bit { OneBit double divider i result }
 {
-    if divider.runs {
-        let place = divider.byte as u32 * 64 + divider.phase as u32 + i;
-        let some = until_change(double, place);
-        if some < count {
-            return some;
+    match divider {
+        Divider::Standing { .. } => count,
+        Divider::Running { byte, phase } => {
+            let place = byte as u32 * 64 + phase as u32 + i;
+            until_change(double, place).min(count)
         }
-        return count;
     }
-    count
 }
 
 // How calls that see one divider bit meet the unit: the half-clocks left, the working clocks, and what the first of those does to the stored bit.

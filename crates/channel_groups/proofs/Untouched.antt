@@ -7,9 +7,9 @@ use Rattle.channel_groups.specs.Groups as any
 use Rattle.channel_groups.specs.PulseGroups as pulse
 use Rattle.channel_groups.specs.WaveGroups as wave
 use Rattle.channel_groups.specs.NoiseGroups as noise
-use Rattle.channel_groups.specs.declared.pulse_group.PulseGroup.{PulseGroup}
-use Rattle.channel_groups.specs.declared.wave_group.WaveGroup.{WaveGroup}
-use Rattle.channel_groups.specs.declared.noise_group.NoiseGroup.{NoiseGroup}
+use Rattle.channel_groups.specs.PulseGroups.{PulseGroup}
+use Rattle.channel_groups.specs.WaveGroups.{WaveGroup}
+use Rattle.channel_groups.specs.NoiseGroups.{NoiseGroup}
 
 pub pulse_untouched : (g : PulseGroup) (at : ℕ) (power even : Bool) (v : ℕ) → (pulse.written g at power even v).converter ≡ g.converter
 unfolding pulse.written pulse.length_written pulse.envelope_written pulse.tuned any.controlled any.triggered any.readied

@@ -2,63 +2,87 @@
 -- channel C as it is there. Rules from document 01, "Channel rules" and "Registers and power". Assumes nothing.
 use Rattle.std.specs.Prelude.{ℕ, Bool, false, not, ◌&&◌}
 use Rattle.ground.specs.Pick.{pick}
+use Rattle.frame.specs.Converter as converter
+use Rattle.frame.specs.Mixing.{voiced}
 use Rattle.frame.specs.declared.converter.Converter.{Converter}
 use Rattle.channel_parts.specs.Length as lengths
 use Rattle.channel_parts.specs.declared.length.Length.{Length}
 use Rattle.channel_parts.specs.declared.length.Clocked.{Clocked}
 use Rattle.channel_groups.specs.Bits.{enable_of, trigger_of}
+use Rattle.channel_groups.specs.declared.group.Group.{Group}
+use Rattle.channel_groups.specs.declared.group.Sounded.{Sounded}
 
--- a kind of group: how it is taken apart and put together, and its channel's on/off switch
-pub record Kind (G C : Type 0) : Type 0 where
-  pub converter : G → Converter
-  pub length : G → Length
-  pub channel : G → C
-  pub put : Converter → Length → C → G
+-- a kind of channel by its own rules; M is what its trigger has to know of the unit
+pub record Kind (C M : Type 0) : Type 1 where
+  -- "Ranges held from the start", and the start
+  pub Own : C → Type 0
+  pub fresh : C
+  -- the on/off switch
   pub on : C → Bool
   pub switched : C → Bool → C
+  -- a write of FFx4: what it does to the frequency, and the trigger
+  pub retuned : ℕ → C → C
+  pub triggered : M → C → C
+  -- a working clock, and what goes to the converter
+  pub clocked : C → C
+  pub output_of : C → ℕ
+  pub muted_of : C → Bool
 
-module _ {G C : Type 0} (k : Kind G C) where
+-- the group with another converter, length record or channel
+abbrev pub with_converter : {C : Type 0} → Group C → Converter → Group C
+with_converter g d = record { converter = d; length = g.length; channel = g.channel }
+
+abbrev pub with_length : {C : Type 0} → Group C → Length → Group C
+with_length g l = record { converter = g.converter; length = l; channel = g.channel }
+
+abbrev pub with_channel : {C : Type 0} → Group C → C → Group C
+with_channel g c = record { converter = g.converter; length = g.length; channel = c }
+
+-- "off DMG the lengths at maximum"
+unfoldable pub refilled : {C : Type 0} → Group C → Group C
+refilled g = with_length g (lengths.reset g.length)
+
+module _ {C M : Type 0} (k : Kind C M) where
   -- "Ranges held from the start": the length record's with its maximum, and the channel's own
-  pub record Held (most : ℕ) (Own : C → Type 0) (g : G) : Type 0 where
-    pub length : lengths.Held most (k.length g)
-    pub channel : Own (k.channel g)
+  pub record Held (most : ℕ) (g : Group C) : Type 0 where
+    pub length : lengths.Held most g.length
+    pub channel : k.Own g.channel
 
-  -- the group with another converter, length record or channel
-  abbrev pub with_converter : G → Converter → G
-  with_converter g d = k.put d (k.length g) (k.channel g)
-
-  abbrev pub with_length : G → Length → G
-  with_length g l = k.put (k.converter g) l (k.channel g)
-
-  abbrev pub with_channel : G → C → G
-  with_channel g c = k.put (k.converter g) (k.length g) c
+  -- "Start: everything 0 or off", with the maximal length
+  abbrev pub fresh : ℕ → Group C
+  fresh most = record { converter = converter.fresh; length = lengths.fresh most; channel = k.fresh }
 
   -- what a length clock leaves, and the channel off where it "turns the channel off"
-  abbrev pub length_counted : G → Clocked → C → G
-  length_counted g after c = k.put (k.converter g) after.length (k.switched c (k.on c && not after.off))
+  abbrev pub length_counted : Group C → Clocked → C → Group C
+  length_counted g after c = record { converter = g.converter; length = after.length; channel = k.switched c (k.on c && not after.off) }
 
   -- "A length clock .. turns the channel off"
-  unfoldable pub length_clocked : G → G
-  length_clocked g = length_counted g (lengths.clocked (k.length g)) (k.channel g)
+  unfoldable pub length_clocked : Group C → Group C
+  length_clocked g = length_counted g (lengths.clocked g.length) g.channel
 
-  -- "An FFx4 write sets the frequency first (not noise), then length enable; newly enabled while the next position .. is even, length is clocked at once":
-  -- `tuned` sets the frequency
-  unfoldable pub readied : (C → C) → G → Bool → ℕ → G
-  readied tuned g even value = length_counted g (lengths.enabling (k.length g) (enable_of value) even) (tuned (k.channel g))
+  -- "An FFx4 write sets the frequency first (not noise), then length enable; newly enabled while the next position .. is even, length is clocked at once"
+  unfoldable pub readied : Group C → Bool → ℕ → Group C
+  readied g even value = length_counted g (lengths.enabling g.length (enable_of value) even) (k.retuned value g.channel)
 
-  -- "A trigger with counter 0 sets the maximum": of the length record, and of the channel by its own rule, `started`
-  unfoldable pub triggered : (C → C) → G → Bool → G
-  triggered started g even = k.put (k.converter g) (lengths.triggered (k.length g) even) (started (k.channel g))
+  -- "A trigger with counter 0 sets the maximum": of the length record, and of the channel by its own rule
+  unfoldable pub triggered : Group C → M → Bool → Group C
+  triggered g model even =
+      record { converter = g.converter; length = lengths.triggered g.length even; channel = k.triggered model g.channel }
 
   -- a write of FFx4
-  unfoldable pub controlled : (C → C) → (C → C) → G → Bool → ℕ → G
-  controlled tuned started g even value =
-      pick (trigger_of value) (triggered started (readied tuned g even value) even) (readied tuned g even value)
+  unfoldable pub controlled : Group C → M → Bool → ℕ → Group C
+  controlled g model even value = pick (trigger_of value) (triggered (readied g even value) model even) (readied g even value)
 
-  -- "off DMG the lengths at maximum"
-  unfoldable pub refilled : G → G
-  refilled g = with_length g (lengths.reset (k.length g))
+  -- a working clock of the channel
+  unfoldable pub clocked : Group C → Group C
+  clocked g = with_channel g (k.clocked g.channel)
 
   -- "then all channels go off"
-  unfoldable pub silenced : G → G
-  silenced g = with_channel g (k.switched (k.channel g) false)
+  unfoldable pub silenced : Group C → Group C
+  silenced g = with_channel g (k.switched g.channel false)
+
+  -- "Every channel's converter steps once per frame": by FF24, FF25 and the channel's number there
+  unfoldable pub sounded : Group C → ℕ → ℕ → ℕ → Sounded C
+  sounded g control selection number =
+      let after = voiced g.converter (k.output_of g.channel) (k.muted_of g.channel) control selection number in
+      record { group = with_converter g after.converter; sides = after.sides }

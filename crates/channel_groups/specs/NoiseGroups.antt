@@ -2,8 +2,6 @@
 -- Rules from document 01, "Channel rules" and "Registers and power". Assumes nothing.
 use Rattle.std.specs.Prelude.{ℕ, ◌%◌, Bool, eqb}
 use Rattle.ground.specs.Pick.{pick}
-use Rattle.frame.specs.Converter as converter
-use Rattle.frame.specs.Mixing.{voiced}
 use Rattle.frame.specs.Held as float
 use Rattle.channel_parts.specs.Length as lengths
 use Rattle.channel_parts.specs.Envelope as envelope
@@ -13,23 +11,29 @@ use Rattle.channel_noise.specs.declared.noise_channel.NoiseChannel.{NoiseChannel
 use Rattle.channel_groups.specs.Groups as any
 use Rattle.channel_groups.specs.Groups.{Kind}
 use Rattle.channel_groups.specs.Bits.{control_byte}
-use Rattle.channel_groups.specs.declared.noise_group.NoiseGroup.{NoiseGroup}
-use Rattle.channel_groups.specs.declared.noise_group.NoiseSounded.{NoiseSounded}
+use Rattle.channel_groups.specs.declared.group.Group.{Group}
+use Rattle.channel_groups.specs.declared.group.Sounded.{Sounded}
 
-abbrev pub kind : Kind NoiseGroup NoiseChannel
+abbrev pub NoiseGroup : Type 0
+NoiseGroup = Group NoiseChannel
+
+abbrev pub kind : Kind NoiseChannel (Unit {0})
 kind =
     record {
-      converter = λ g. g.converter;
-      length = λ g. g.length;
-      channel = λ g. g.channel;
-      put = λ d l c. record { converter = d; length = l; channel = c };
+      Own = channel.Held;
+      fresh = channel.fresh;
       on = λ c. c.channel_enabled;
       switched = with_on;
+      retuned = λ value c. c;
+      triggered = λ _ c. channel.triggered c;
+      clocked = channel.clocked;
+      output_of = channel.output_of;
+      muted_of = channel.muted_of;
     }
 
 -- "Ranges held from the start"; the maximal length is 64
 abbrev pub Held : NoiseGroup → Type 0
-Held = any.Held kind 64 channel.Held
+Held = any.Held kind 64
 
 -- the range of its capacitor, which no register or clock call asks
 abbrev pub FloatHeld : NoiseGroup → Type 0
@@ -37,14 +41,14 @@ FloatHeld g = float.Held g.converter
 
 -- "Start: everything 0 or off"
 abbrev pub fresh : NoiseGroup
-fresh = record { converter = converter.fresh; length = lengths.fresh 64; channel = channel.fresh }
+fresh = any.fresh kind 64
 
 abbrev pub with_channel : NoiseGroup → NoiseChannel → NoiseGroup
-with_channel = any.with_channel kind
+with_channel = any.with_channel
 
 -- a write of FF20
 unfoldable pub length_written : NoiseGroup → ℕ → NoiseGroup
-length_written g value = any.with_length kind g (lengths.written g.length (value % 64))
+length_written g value = any.with_length g (lengths.written g.length (value % 64))
 
 -- a write of FF21
 unfoldable pub envelope_written : NoiseGroup → ℕ → NoiseGroup
@@ -56,13 +60,13 @@ noise_written g value = with_channel g (channel.written g.channel value)
 
 -- a write of FF23, in its two steps; the noise has no frequency
 abbrev pub readied : NoiseGroup → Bool → ℕ → NoiseGroup
-readied = any.readied kind (λ c. c)
+readied = any.readied kind
 
 abbrev pub triggered : NoiseGroup → Bool → NoiseGroup
-triggered = any.triggered kind channel.triggered
+triggered g even = any.triggered kind g (record {}) even
 
 abbrev pub controlled : NoiseGroup → Bool → ℕ → NoiseGroup
-controlled = any.controlled kind (λ c. c) channel.triggered
+controlled g even value = any.controlled kind g (record {}) even value
 
 -- a write at an offset in the five registers; at 0 nothing, since FF1F is unused
 unfoldable pub written : NoiseGroup → ℕ → Bool → ℕ → NoiseGroup
@@ -86,20 +90,18 @@ unfoldable pub envelope_clocked : NoiseGroup → NoiseGroup
 envelope_clocked g = with_channel g (with_envelope g.channel (envelope.clocked g.channel.envelope))
 
 -- a working clock of the channel
-unfoldable pub clocked : NoiseGroup → NoiseGroup
-clocked g = with_channel g (channel.clocked g.channel)
+abbrev pub clocked : NoiseGroup → NoiseGroup
+clocked = any.clocked kind
 
 abbrev pub length_clocked : NoiseGroup → NoiseGroup
 length_clocked = any.length_clocked kind
 
 abbrev pub refilled : NoiseGroup → NoiseGroup
-refilled = any.refilled kind
+refilled = any.refilled
 
 abbrev pub silenced : NoiseGroup → NoiseGroup
 silenced = any.silenced kind
 
 -- "Every channel's converter steps once per frame": by FF24 and FF25, where the noise is number 3
-unfoldable pub sounded : NoiseGroup → ℕ → ℕ → NoiseSounded
-sounded g control selection =
-    let after = voiced g.converter (channel.output_of g.channel) (channel.muted_of g.channel) control selection 3 in
-    record { group = any.with_converter kind g after.converter; sides = after.sides }
+abbrev pub sounded : NoiseGroup → ℕ → ℕ → Sounded NoiseChannel
+sounded g control selection = any.sounded kind g control selection 3

@@ -2,8 +2,6 @@
 -- Rules from document 01, "Channel rules" and "Registers and power". Assumes nothing.
 use Rattle.std.specs.Prelude.{ℕ, ◌+◌, ◌*◌, ◌/◌, ◌%◌, Bool, eqb}
 use Rattle.ground.specs.Pick.{pick}
-use Rattle.frame.specs.Converter as converter
-use Rattle.frame.specs.Mixing.{voiced}
 use Rattle.frame.specs.Held as float
 use Rattle.channel_parts.specs.Length as lengths
 use Rattle.channel_parts.specs.Envelope as envelope
@@ -13,23 +11,33 @@ use Rattle.channel_pulse.specs.declared.pulse_channel.PulseChannel.{PulseChannel
 use Rattle.channel_groups.specs.Groups as any
 use Rattle.channel_groups.specs.Groups.{Kind}
 use Rattle.channel_groups.specs.Bits.{control_byte, low_written, high_written}
-use Rattle.channel_groups.specs.declared.pulse_group.PulseGroup.{PulseGroup}
-use Rattle.channel_groups.specs.declared.pulse_group.PulseSounded.{PulseSounded}
+use Rattle.channel_groups.specs.declared.group.Group.{Group}
+use Rattle.channel_groups.specs.declared.group.Sounded.{Sounded}
 
-abbrev pub kind : Kind PulseGroup PulseChannel
+abbrev pub PulseGroup : Type 0
+PulseGroup = Group PulseChannel
+
+-- what a write of FFx4 does to the frequency
+abbrev pub retuned : ℕ → PulseChannel → PulseChannel
+retuned value c = with_frequency c (high_written c.frequency value)
+
+abbrev pub kind : Kind PulseChannel (Unit {0})
 kind =
     record {
-      converter = λ g. g.converter;
-      length = λ g. g.length;
-      channel = λ g. g.channel;
-      put = λ d l c. record { converter = d; length = l; channel = c };
+      Own = channel.Held;
+      fresh = channel.fresh;
       on = λ c. c.channel_enabled;
       switched = with_on;
+      retuned = retuned;
+      triggered = λ _ c. channel.triggered c;
+      clocked = channel.clocked;
+      output_of = channel.output_of;
+      muted_of = channel.muted_of;
     }
 
 -- "Ranges held from the start"; the maximal length is 64
 abbrev pub Held : PulseGroup → Type 0
-Held = any.Held kind 64 channel.Held
+Held = any.Held kind 64
 
 -- the range of its capacitor, which no register or clock call asks
 abbrev pub FloatHeld : PulseGroup → Type 0
@@ -37,10 +45,10 @@ FloatHeld g = float.Held g.converter
 
 -- "Start: everything 0 or off"
 abbrev pub fresh : PulseGroup
-fresh = record { converter = converter.fresh; length = lengths.fresh 64; channel = channel.fresh }
+fresh = any.fresh kind 64
 
 abbrev pub with_channel : PulseGroup → PulseChannel → PulseGroup
-with_channel = any.with_channel kind
+with_channel = any.with_channel
 
 -- a write of FF10
 unfoldable pub sweep_written : PulseGroup → ℕ → PulseGroup
@@ -64,17 +72,14 @@ unfoldable pub tuned : PulseGroup → ℕ → PulseGroup
 tuned g value = with_channel g (with_frequency g.channel (low_written g.channel.frequency value))
 
 -- a write of FFx4, in its steps
-abbrev pub retuned : ℕ → PulseChannel → PulseChannel
-retuned value c = with_frequency c (high_written c.frequency value)
-
 abbrev pub readied : PulseGroup → Bool → ℕ → PulseGroup
-readied g even value = any.readied kind (retuned value) g even value
+readied = any.readied kind
 
 abbrev pub triggered : PulseGroup → Bool → PulseGroup
-triggered = any.triggered kind channel.triggered
+triggered g even = any.triggered kind g (record {}) even
 
 abbrev pub controlled : PulseGroup → Bool → ℕ → PulseGroup
-controlled g even value = any.controlled kind (retuned value) channel.triggered g even value
+controlled g even value = any.controlled kind g (record {}) even value
 
 -- a write at an offset in the five registers; at 0 nothing, since FF10 is `sweep_written` and FF15 is unused
 unfoldable pub written : PulseGroup → ℕ → Bool → Bool → ℕ → PulseGroup
@@ -106,20 +111,18 @@ unfoldable pub rewound : PulseGroup → PulseGroup
 rewound g = with_channel g (with_position g.channel 0)
 
 -- a working clock of the channel
-unfoldable pub clocked : PulseGroup → PulseGroup
-clocked g = with_channel g (channel.clocked g.channel)
+abbrev pub clocked : PulseGroup → PulseGroup
+clocked = any.clocked kind
 
 abbrev pub length_clocked : PulseGroup → PulseGroup
 length_clocked = any.length_clocked kind
 
 abbrev pub refilled : PulseGroup → PulseGroup
-refilled = any.refilled kind
+refilled = any.refilled
 
 abbrev pub silenced : PulseGroup → PulseGroup
 silenced = any.silenced kind
 
 -- "Every channel's converter steps once per frame": by FF24, FF25 and the channel's number there, 0 or 1
-unfoldable pub sounded : PulseGroup → ℕ → ℕ → ℕ → PulseSounded
-sounded g control selection number =
-    let after = voiced g.converter (channel.output_of g.channel) (channel.muted_of g.channel) control selection number in
-    record { group = any.with_converter kind g after.converter; sides = after.sides }
+abbrev pub sounded : PulseGroup → ℕ → ℕ → ℕ → Sounded PulseChannel
+sounded = any.sounded kind

@@ -2,8 +2,6 @@
 -- Rules from document 01, "Channel rules" and "Registers and power". Assumes nothing.
 use Rattle.std.specs.Prelude.{ℕ, ◌+◌, ◌*◌, ◌/◌, ◌%◌, Bool, eqb, leb}
 use Rattle.ground.specs.Pick.{pick}
-use Rattle.frame.specs.Converter as converter
-use Rattle.frame.specs.Mixing.{voiced}
 use Rattle.frame.specs.Held as float
 use Rattle.channel_parts.specs.Length as lengths
 use Rattle.channel_wave.specs.Wave as channel
@@ -12,23 +10,33 @@ use Rattle.channel_wave.specs.declared.wave_channel.WaveChannel.{WaveChannel}
 use Rattle.channel_groups.specs.Groups as any
 use Rattle.channel_groups.specs.Groups.{Kind}
 use Rattle.channel_groups.specs.Bits.{control_byte, low_written, high_written}
-use Rattle.channel_groups.specs.declared.wave_group.WaveGroup.{WaveGroup}
-use Rattle.channel_groups.specs.declared.wave_group.WaveSounded.{WaveSounded}
+use Rattle.channel_groups.specs.declared.group.Group.{Group}
+use Rattle.channel_groups.specs.declared.group.Sounded.{Sounded}
 
-abbrev pub kind : Kind WaveGroup WaveChannel
+abbrev pub WaveGroup : Type 0
+WaveGroup = Group WaveChannel
+
+-- what a write of FFx4 does to the frequency
+abbrev pub retuned : ℕ → WaveChannel → WaveChannel
+retuned value c = with_frequency c (high_written c.frequency value)
+
+abbrev pub kind : Kind WaveChannel Bool
 kind =
     record {
-      converter = λ g. g.converter;
-      length = λ g. g.length;
-      channel = λ g. g.channel;
-      put = λ d l c. record { converter = d; length = l; channel = c };
+      Own = channel.Held;
+      fresh = channel.fresh;
       on = λ c. c.channel_enable;
       switched = with_on;
+      retuned = retuned;
+      triggered = λ dmg c. channel.triggered c dmg;
+      clocked = channel.clocked;
+      output_of = channel.output_of;
+      muted_of = channel.muted_of;
     }
 
 -- "Ranges held from the start"; the maximal length is 256
 abbrev pub Held : WaveGroup → Type 0
-Held = any.Held kind 256 channel.Held
+Held = any.Held kind 256
 
 -- the range of its capacitor, which no register or clock call asks
 abbrev pub FloatHeld : WaveGroup → Type 0
@@ -36,10 +44,10 @@ FloatHeld g = float.Held g.converter
 
 -- "Start: everything 0 or off"
 abbrev pub fresh : WaveGroup
-fresh = record { converter = converter.fresh; length = lengths.fresh 256; channel = channel.fresh }
+fresh = any.fresh kind 256
 
 abbrev pub with_channel : WaveGroup → WaveChannel → WaveGroup
-with_channel = any.with_channel kind
+with_channel = any.with_channel
 
 -- a write of FF1A: "DAC is .. (wave FF1A bit 7)"
 unfoldable pub dac_written : WaveGroup → ℕ → WaveGroup
@@ -47,7 +55,7 @@ dac_written g value = with_channel g (channel.dac_set g.channel (leb 128 value))
 
 -- a write of FF1B
 unfoldable pub length_written : WaveGroup → ℕ → WaveGroup
-length_written g value = any.with_length kind g (lengths.written g.length value)
+length_written g value = any.with_length g (lengths.written g.length value)
 
 -- a write of FF1C: bits 5 and 6 are the volume
 unfoldable pub volume_written : WaveGroup → ℕ → WaveGroup
@@ -58,17 +66,14 @@ unfoldable pub tuned : WaveGroup → ℕ → WaveGroup
 tuned g value = with_channel g (with_frequency g.channel (low_written g.channel.frequency value))
 
 -- a write of FF1E, in its steps
-abbrev pub retuned : ℕ → WaveChannel → WaveChannel
-retuned value c = with_frequency c (high_written c.frequency value)
-
 abbrev pub readied : WaveGroup → Bool → ℕ → WaveGroup
-readied g even value = any.readied kind (retuned value) g even value
+readied = any.readied kind
 
 abbrev pub triggered : WaveGroup → Bool → Bool → WaveGroup
-triggered g dmg even = any.triggered kind (λ c. channel.triggered c dmg) g even
+triggered = any.triggered kind
 
 abbrev pub controlled : WaveGroup → Bool → Bool → ℕ → WaveGroup
-controlled g dmg even value = any.controlled kind (retuned value) (λ c. channel.triggered c dmg) g even value
+controlled = any.controlled kind
 
 -- a write at an offset in the five registers
 unfoldable pub written : WaveGroup → ℕ → Bool → Bool → ℕ → WaveGroup
@@ -97,20 +102,18 @@ unfoldable pub rewound : WaveGroup → WaveGroup
 rewound g = with_channel g (with_position g.channel 0)
 
 -- a working clock of the channel
-unfoldable pub clocked : WaveGroup → WaveGroup
-clocked g = with_channel g (channel.clocked g.channel)
+abbrev pub clocked : WaveGroup → WaveGroup
+clocked = any.clocked kind
 
 abbrev pub length_clocked : WaveGroup → WaveGroup
 length_clocked = any.length_clocked kind
 
 abbrev pub refilled : WaveGroup → WaveGroup
-refilled = any.refilled kind
+refilled = any.refilled
 
 abbrev pub silenced : WaveGroup → WaveGroup
 silenced = any.silenced kind
 
 -- "Every channel's converter steps once per frame": by FF24 and FF25, where the wave is number 2
-unfoldable pub sounded : WaveGroup → ℕ → ℕ → WaveSounded
-sounded g control selection =
-    let after = voiced g.converter (channel.output_of g.channel) (channel.muted_of g.channel) control selection 2 in
-    record { group = any.with_converter kind g after.converter; sides = after.sides }
+abbrev pub sounded : WaveGroup → ℕ → ℕ → Sounded WaveChannel
+sounded g control selection = any.sounded kind g control selection 2

@@ -1,51 +1,65 @@
-// A pulse with its length record and its converter.
+// A pulse with its length record and its converter: what is its own.
 ghost use Rattle.std.specs.Prelude.{◌≡◌, ◌≤◌};
-ghost use Rattle.channel_groups.specs.PulseGroups.{Held, fresh, readied, triggered, controlled, written, byte_of, clocked, length_clocked, refilled};
-ghost use Rattle.channel_groups.specs.PulseGroups.{silenced, sounded, sweep_written, length_written, envelope_written, tuned, sweep_clocked};
-ghost use Rattle.channel_groups.specs.PulseGroups.{envelope_clocked, rewound};
+ghost use Rattle.channel_groups.specs.PulseGroups.{kind, Held, written, byte_of, sounded, sweep_written, length_written, envelope_written, tuned, sweep_clocked, envelope_clocked, rewound};
+ghost use Rattle.channel_groups.specs.Keeps.{pulse_keeps};
 
 use crate::bits::{control_byte, high_written, low_written};
-use channel_parts::length::Length;
+use crate::group::{Channel, Group, Sounded};
 use channel_pulse::pulse_channel::PulseChannel;
-use frame::converter::Converter;
-use frame::mixing::{Sides, voice};
 
-#[derive(Clone, Copy)]
-pub struct PulseGroup {
-    pub converter: Converter,
-    pub length: Length,
-    pub channel: PulseChannel,
-}
+pub type PulseGroup = Group<PulseChannel>;
 
-// A group after its part in a frame, and the two numbers that it sounds.
-#[derive(Clone, Copy)]
-pub struct PulseSounded {
-    pub group: PulseGroup,
-    pub sides: Sides,
+impl Channel for PulseChannel {
+    type Model = ();
+
+    const MAX_LENGTH: u16 = 64;
+
+    ghost MAX_LENGTH = { 64 };
+
+    ghost kind = { kind };
+
+    ghost keeps = { pulse_keeps };
+
+    fn new() -> PulseChannel {
+        PulseChannel::new()
+    }
+
+    fn is_on(self) -> bool {
+        self.channel_enabled
+    }
+
+    fn set_enable(self, enabled: bool) -> PulseChannel {
+        PulseChannel::set_enable(self, enabled)
+    }
+
+    fn retune(self, value: u8) -> PulseChannel {
+        self.write_frequency(high_written(self.frequency, value))
+    }
+
+    fn trigger(self, _model: ()) -> PulseChannel {
+        PulseChannel::trigger(self)
+    }
+
+    fn clock(self) -> PulseChannel {
+        PulseChannel::clock(self)
+    }
+
+    fn output(self) -> u8 {
+        PulseChannel::output(self)
+    }
+
+    fn muted(self) -> bool {
+        PulseChannel::muted(self)
+    }
 }
 
 impl PulseGroup {
-    // Everything 0 or off.
-    pub fn new() -> PulseGroup
-        ensures { result ≡ fresh }
-    {
-        let converter = Converter::new();
-        let length = Length::new(64);
-        let channel = PulseChannel::new();
-        PulseGroup {
-            converter,
-            length,
-            channel,
-        }
-    }
-
     // FF10, of pulse 1 alone.
     pub fn write_sweep(self, value: u8) -> PulseGroup
         ensures { result ≡ sweep_written self value }
     {
-        let channel = self.channel;
         let mut next = self;
-        next.channel = channel.write_sweep_register(value);
+        next.channel = self.channel.write_sweep_register(value);
         next
     }
 
@@ -69,9 +83,8 @@ impl PulseGroup {
     fn write_envelope(self, value: u8) -> PulseGroup
         ensures { result ≡ envelope_written self value }
     {
-        let channel = self.channel;
         let mut next = self;
-        next.channel = channel.write_envelope_register(value);
+        next.channel = self.channel.write_envelope_register(value);
         next
     }
 
@@ -85,47 +98,6 @@ impl PulseGroup {
         next
     }
 
-    // FFx4 but for the trigger: the high bits of the frequency, then the length enable, which may clock the length at once and so turn the channel off.
-    fn ready(self, even: bool, value: u8) -> PulseGroup
-        ensures { result ≡ readied self even value }
-    {
-        let length = self.length;
-        let clocked = length.write_length_enable(value / 64 % 2 == 1, even);
-        let after = clocked.length;
-        let channel = self.channel;
-        let tuned = channel.write_frequency(high_written(channel.frequency, value));
-        let mut next = self;
-        next.length = after;
-        next.channel = tuned.set_enable(channel.channel_enabled & !clocked.off);
-        next
-    }
-
-    // A trigger: of the length, then of the channel.
-    fn start(self, even: bool) -> PulseGroup
-        requires { Held self }
-        ensures { result ≡ triggered self even }
-    {
-        let length = self.length;
-        let channel = self.channel;
-        let mut next = self;
-        next.length = length.trigger_length(even);
-        next.channel = channel.trigger();
-        next
-    }
-
-    // FFx4; `even` says that the sequencer's next position is even.
-    fn write_control(self, even: bool, value: u8) -> PulseGroup
-        requires { Held self }
-        ensures { result ≡ controlled self even value }
-    {
-        let ready = self.ready(even, value);
-        if 128 <= value {
-            ready.start(even)
-        } else {
-            ready
-        }
-    }
-
     // A write at one of the offsets 1 to 4 of its five registers; offset 0 is FF10, or of pulse 2 nothing.
     pub fn write(self, at: u16, power: bool, even: bool, value: u8) -> PulseGroup
         requires { Held self }
@@ -135,7 +107,7 @@ impl PulseGroup {
             1 => self.write_length(power, value),
             2 => self.write_envelope(value),
             3 => self.write_low(value),
-            4 => self.write_control(even, value),
+            4 => self.write_control((), even, value),
             _ => self,
         }
     }
@@ -160,9 +132,8 @@ impl PulseGroup {
         requires { Held self }
         ensures { result ≡ sweep_clocked self }
     {
-        let channel = self.channel;
         let mut next = self;
-        next.channel = channel.clock_sweeper();
+        next.channel = self.channel.clock_sweeper();
         next
     }
 
@@ -182,77 +153,17 @@ impl PulseGroup {
     pub fn rewind(self) -> PulseGroup
         ensures { result ≡ rewound self }
     {
-        let channel = self.channel;
         let mut next = self;
-        next.channel = channel.reset_sequencer();
-        next
-    }
-
-    // A working clock of the channel.
-    pub fn clock(self) -> PulseGroup
-        requires { Held self }
-        ensures { result ≡ clocked self }
-    {
-        let channel = self.channel;
-        let mut next = self;
-        next.channel = channel.clock();
-        next
-    }
-
-    // A length clock, which may turn the channel off.
-    pub fn clock_length_counter(self) -> PulseGroup
-        ensures { result ≡ length_clocked self }
-    {
-        let length = self.length;
-        let clocked = length.clock_length_counter();
-        let after = clocked.length;
-        let channel = self.channel;
-        let mut next = self;
-        next.length = after;
-        next.channel = channel.set_enable(channel.channel_enabled & !clocked.off);
-        next
-    }
-
-    // Power on, off DMG: the length at its maximum.
-    pub fn reset_length_counter(self) -> PulseGroup
-        ensures { result ≡ refilled self }
-    {
-        let length = self.length;
-        let mut next = self;
-        next.length = length.reset_length_counter();
-        next
-    }
-
-    // Power off: the channel off.
-    pub fn silence(self) -> PulseGroup
-        ensures { result ≡ silenced self }
-    {
-        let channel = self.channel;
-        let mut next = self;
-        next.channel = channel.set_enable(false);
+        next.channel = self.channel.reset_sequencer();
         next
     }
 
     // Its part in a frame, by FF24 and FF25; pulse 1 is channel 0, pulse 2 channel 1.
-    pub fn sound(self, control: u8, selection: u8, number: u8) -> PulseSounded
+    pub fn sound(self, control: u8, selection: u8, number: u8) -> Sounded<PulseChannel>
         requires held { Held self }
         requires number_bound { number ≤ 3 }
         ensures { result ≡ sounded self control selection number }
     {
-        let channel = self.channel;
-        let converter = self.converter;
-        let voiced = voice(
-            converter,
-            channel.output(),
-            channel.muted(),
-            control,
-            selection,
-            number,
-        );
-        let sides = voiced.sides;
-        let after = voiced.converter;
-        let mut next = self;
-        next.converter = after;
-        PulseSounded { group: next, sides }
+        self.sound_as(control, selection, number)
     }
 }

@@ -8,7 +8,7 @@ ghost use Rattle.channel_noise.specs.Phase.{NoisePhaseHeld, noise_phase_of, with
 use crate::phase::NoisePhase;
 use crate::reloads::reload_at;
 use channel_parts::envelope::Envelope;
-use ground::num::{flag, flag16};
+use ground::num::flag;
 
 #[derive(Clone, Copy)]
 pub struct NoiseChannel {
@@ -28,7 +28,7 @@ fn feedback_bit(register: u16) -> u16
     ensures value { result ≡ feedback_of register }
     ensures upper_bound { result ≤ 1 }
 {
-    flag16(register % 2 != register / 2 % 2, 1)
+    flag(register % 2 != register / 2 % 2, 1)
 }
 
 // The register with x as its bit 14.

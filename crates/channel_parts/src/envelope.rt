@@ -2,7 +2,7 @@
 ghost use Rattle.std.specs.Prelude.{◌≡◌};
 ghost use Rattle.channel_parts.specs.Envelope.{fresh, written, byte_of, step_volume, goes_on, stepped, runs, expired, clocked, triggered};
 
-use ground::num::{flag, reload, saturating_sub};
+use ground::num::{flag, reload};
 
 #[repr(C)]
 #[derive(Clone, Copy)]
@@ -23,7 +23,7 @@ fn step_volume(volume: u8, increase: bool) -> u8
     if increase {
         if volume < 15 { volume + 1 } else { volume }
     } else {
-        saturating_sub(volume, 1)
+        volume.saturating_sub(1)
     }
 }
 
@@ -108,7 +108,7 @@ impl Envelope {
         ensures { result ≡ clocked self }
     {
         let mut next = self;
-        next.counter = saturating_sub(self.counter, 1);
+        next.counter = self.counter.saturating_sub(1);
         if next.counter == 0 {
             self.expire()
         } else {

@@ -2,7 +2,7 @@
 ghost use Rattle.std.specs.Prelude.{◌≡◌};
 ghost use Rattle.channel_parts.specs.Length.{fresh, written, reset, clocked, newly_enabled, enabling, triggered};
 
-use ground::num::{flag16, saturating_sub16};
+use ground::num::flag;
 
 #[derive(Clone, Copy)]
 pub struct Length {
@@ -38,7 +38,7 @@ impl Length {
     pub fn write_sound_length(self, value: u8) -> Length
         ensures { result ≡ written self value }
     {
-        let length = saturating_sub16(self.max_length, value as u16);
+        let length = self.max_length.saturating_sub(value as u16);
         Length {
             max_length: self.max_length,
             length: length,
@@ -64,7 +64,7 @@ impl Length {
         ensures { result ≡ clocked self }
     {
         let mut next = self;
-        next.current_counter = saturating_sub16(self.current_counter, 1);
+        next.current_counter = self.current_counter.saturating_sub(1);
         if self.counter_decrease_enable {
             Clocked {
                 length: next,
@@ -106,10 +106,9 @@ impl Length {
         ensures { result ≡ triggered self even }
     {
         let mut next = self;
-        next.current_counter = saturating_sub16(
-            self.max_length,
-            flag16(self.counter_decrease_enable & even, 1),
-        );
+        next.current_counter = self
+            .max_length
+            .saturating_sub(flag(self.counter_decrease_enable & even, 1));
         if self.current_counter == 0 {
             next
         } else {

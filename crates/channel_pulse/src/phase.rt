@@ -3,7 +3,7 @@ ghost use Rattle.std.specs.Prelude.{◌≡◌, ◌+◌, ◌≤◌};
 ghost use Rattle.ground.specs.Iterate.{iterate};
 ghost use Rattle.channel_pulse.specs.Phase.{PulsePhaseHeld, pulse_phase_clocked};
 
-use ground::num::flag32;
+use ground::num::flag;
 use ground::timer::{count_down, count_near};
 
 #[derive(Clone, Copy)]
@@ -37,7 +37,7 @@ impl PulsePhase {
         requires n_bound { n ≤ reload + 1 }
         ensures { result ≡ iterate n (pulse_phase_clocked triggered reload) self }
     {
-        let run = count_near(self.frequency_timer, reload + 1, flag32(triggered, n));
+        let run = count_near(self.frequency_timer, reload + 1, flag(triggered, n));
         PulsePhase {
             sequencer_position: (self.sequencer_position + run.steps as usize) % 8,
             frequency_timer: run.timer,

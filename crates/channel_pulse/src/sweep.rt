@@ -3,7 +3,7 @@ ghost use Rattle.std.specs.Prelude.{◌≡◌, ◌≤◌};
 ghost use Rattle.channel_pulse.specs.Sweep.{Held, fresh, written, byte_of, reloaded, target_of, calculated, checked, stored, updated, expired};
 ghost use Rattle.channel_pulse.specs.Sweep.{clocked, sweep_started, triggered};
 
-use ground::num::{flag, reload, saturating_sub};
+use ground::num::{flag, reload};
 
 #[derive(Clone, Copy)]
 pub struct Sweep {
@@ -180,7 +180,7 @@ impl Sweep {
         ensures { result ≡ clocked self frequency }
     {
         let mut next = self;
-        next.current_time = saturating_sub(self.current_time, 1);
+        next.current_time = self.current_time.saturating_sub(1);
         if next.current_time == 0 {
             self.expire(frequency)
         } else {

@@ -1,5 +1,5 @@
 // The sample counter as a whole number of 2^-48: frames of many clock calls are counted by a division, with no float and no loop.
-ghost use Rattle.std.specs.Prelude.{◌≡◌, ◌≤◌, min};
+ghost use Rattle.std.specs.Prelude.{◌≡◌, ◌≤◌};
 ghost use Rattle.clocks.specs.Calls.{K};
 ghost use Rattle.clocks.specs.Metered.{Held, metered, frames_from};
 
@@ -23,13 +23,6 @@ pub struct Meter {
 pub struct Metered {
     pub frames: u64,
     pub meter: Meter,
-}
-
-// The smaller of two numbers.
-fn at_most(n: u64, top: u64) -> u64
-    ensures { result ≡ min n top }
-{
-    if n < top { n } else { top }
 }
 
 impl Meter {
@@ -60,7 +53,7 @@ pub fn frames_from(meter: Meter, halves: u64) -> u64
     let mut frames: u64 = 0;
     let mut left = halves;
     while 0 < left {
-        let some = at_most(left, 16384);
+        let some = left.min(16384);
         let metered = at.calls(true, some);
         at = metered.meter;
         frames += metered.frames;

@@ -6,7 +6,7 @@ use mathlib.Core.List.{List}
 use lib.ListN.{length}
 use lib.Dec.{ltb}
 use Rattle.ground.specs.Pick.{pick}
-use Rattle.log_records.specs.declared.judge.Record.{Record}
+use Rattle.log_records.specs.Judge.{Judged}
 use Rattle.log_records.specs.Records.{listed}
 use Rattle.log_scan.specs.Answers.{refused_within}
 use Rattle.log_vgm.specs.Commands.{samples_in}
@@ -25,6 +25,6 @@ module _ (s : List ℕ) (room : ℕ) (done : is_done (imported_of s room) ≡ tr
 
   pub imported_made : 1 ≤ samples_in (track_of s) → made_by (listed (log_of s)) (unit_of_start 1) ≡ samples_in (track_of s) - 1
   imported_made some =
-      ap (λ (l : List Record). made_by l (unit_of_start 1)) (imported_listed s)
+      ap (λ (l : List Judged). made_by l (unit_of_start 1)) (imported_listed s)
       ∙ frames_made_fresh (imported_records s) 1
       ∙ imported_frames s room done some

@@ -5,7 +5,8 @@ ghost use Rattle.log_vgm.specs.Imports.{capped, imported_of, log_after};
 ghost use Rattle.log_vgm.specs.Imports as imports;
 
 use crate::pack::packed;
-use log_vgm::import::{Imported, import_log, refusal, returned};
+use log_vgm::import::{import_log, refusal, returned};
+use log_vgm::refusal::ImportRefusal;
 
 // A number in 48 bits. A greater place, which no file has, is told as the greatest.
 fn in_48_bits(number: u64) -> u64
@@ -19,7 +20,7 @@ fn in_48_bits(number: u64) -> u64
 }
 
 // The answer to a file as one number.
-fn pack_import(answer: Imported) -> u64
+fn pack_import(answer: Result<u64, ImportRefusal>) -> u64
     ensures { result ≡ imports.packed answer }
 {
     packed(refusal(answer), in_48_bits(returned(answer)))

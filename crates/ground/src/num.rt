@@ -1,44 +1,46 @@
 // Helpers on small numbers: what the Rust takes from the standard library or writes as a mask.
-ghost use Rattle.std.specs.Prelude.{◌≡◌, ◌-◌, ◌≤◌};
+ghost use Rattle.std.specs.Prelude.{◌≡◌, ℕ, ◌≤◌};
 ghost use Rattle.ground.specs.Num.{zero_as_eight, is_sound};
 ghost use Rattle.ground.specs.Pick.{pick};
 
-// The difference, and not below 0.
-pub fn saturating_sub(x: u8, y: u8) -> u8
-    ensures { result ≡ x - y }
-{
-    if x < y { 0 } else { x - y }
+// A whole number of any width: what `flag` weighs with.
+pub trait Unsigned: Copy {
+    ghost value: { Self → ℕ };
+
+    fn zero() -> Self
+        ensures { value result ≡ 0 };
 }
 
-// The difference, and not below 0.
-pub fn saturating_sub16(x: u16, y: u16) -> u16
-    ensures { result ≡ x - y }
-{
-    if x < y { 0 } else { x - y }
+impl Unsigned for u8 {
+    ghost value = { λ n. n };
+
+    fn zero() -> u8 {
+        0
+    }
+}
+
+impl Unsigned for u16 {
+    ghost value = { λ n. n };
+
+    fn zero() -> u16 {
+        0
+    }
+}
+
+impl Unsigned for u32 {
+    ghost value = { λ n. n };
+
+    fn zero() -> u32 {
+        0
+    }
 }
 
 // A flag's weight where it is set, else 0.
-pub fn flag(set: bool, weight: u8) -> u8
-    ensures value { result ≡ pick set weight 0 }
-    ensures upper_bound { result ≤ weight }
+pub fn flag<N: Unsigned>(set: bool, weight: N) -> N
+    ensures value { N.value result ≡ pick set (N.value weight) 0 }
+    ensures upper_bound { N.value result ≤ N.value weight }
 {
-    if set { weight } else { 0 }
-}
-
-// A flag's weight where it is set, else 0.
-pub fn flag16(set: bool, weight: u16) -> u16
-    ensures value { result ≡ pick set weight 0 }
-    ensures upper_bound { result ≤ weight }
-{
-    if set { weight } else { 0 }
-}
-
-// A flag's weight where it is set, else 0.
-pub fn flag32(set: bool, weight: u32) -> u32
-    ensures value { result ≡ pick set weight 0 }
-    ensures upper_bound { result ≤ weight }
-{
-    if set { weight } else { 0 }
+    if set { weight } else { N::zero() }
 }
 
 // What a sweep's or an envelope's counter reloads to: the period, where 0 counts as 8.
@@ -52,5 +54,5 @@ pub fn reload(period: u8) -> u8
 pub fn is_sound(addr: u16) -> bool
     ensures { result ≡ is_sound addr }
 {
-    (0xFF10 <= addr) & (addr <= 0xFF3F)
+    (0xFF10..=0xFF3F).contains(&addr)
 }

@@ -10,19 +10,18 @@ use lib.ListN.{length, get_or, drop_of_length-le, length-append}
 use lib.Dec.{ltb}
 use lib.Seq.{sets-eq}
 use borrow.Author.Tests.{le-ltb}
+use Rattle.std.specs.Prelude.{Option, None, Some}
 use Rattle.ground.specs.Pick.{pick}
 use Rattle.ground.proofs.Cases.{pick_holds}
 use Rattle.apu.specs.Held.{Whole}
 use Rattle.apu.specs.declared.Apu.{Apu}
+use Rattle.log_records.specs.Judge.{Judged}
 use Rattle.log_records.specs.Records.{version_of, records_of, listed}
-use Rattle.log_records.specs.declared.judge.Record.{Record}
 use Rattle.log_scan.specs.Scan.{wrong_in, summed, added}
 use Rattle.log_scan.specs.Answers.{is_done, done_as, or_wrong, scanned_as, within_room}
 use Rattle.log_scan.specs.declared.answer.LogAnswer.{LogAnswer}
 use Rattle.log_scan.specs.declared.answer.LogAnswer.TheVariants.{Done, TooLong, BadStart, WrongRecord, TooShort}
 use Rattle.log_scan.specs.declared.scan.Sums.{Sums}
-use Rattle.log_scan.specs.declared.scan.Mark.{Mark}
-use Rattle.log_scan.specs.declared.scan.Mark.TheVariants.{Clear, At}
 use Rattle.log_scan.proofs.Counting.{summed_append}
 use Rattle.log_scan.proofs.Done.{done_clear}
 use Rattle.log_player.specs.Playing.{unit_of_start, output, unit_at_end}
@@ -75,10 +74,10 @@ module _ (room n f : ℕ) (s : List ℕ) where
   roomy true d = cc
   roomy false d = refl
 
-  marked : (m : Mark) → Is (or_wrong m sums)
+  marked : (m : Option ℕ) → Is (or_wrong m sums)
   unfolding within_room
-  marked Clear d = roomy (ltb room n) d
-  marked (At p) d = cc
+  marked None d = roomy (ltb room n) d
+  marked (Some p) d = cc
 
   done_is : Is (scanned_as n f s)
   unfolding scanned_as within_room
@@ -111,7 +110,7 @@ counts_in (TooShort needed) = record { bytes = 0; frames = 0; calls = 0; records
 abbrev tell : ℕ → ℕ → Sums → Counts
 tell bytes frames sums = record { bytes = bytes; frames = frames; calls = sums.calls; records = sums.records }
 
-counts_append : (xs ys : List Record) (u : Apu)
+counts_append : (xs ys : List Judged) (u : Apu)
     → let v = unit_at_end xs u in
     tell (length (output xs u) + length (output ys v)) (made_by xs u + made_by ys v) (added (summed xs) (summed ys)) ≡ counts_of (xs ++ ys) u
 counts_append xs ys u =
@@ -194,7 +193,7 @@ module _ (s a b place : List ℕ) (room more : ℕ) (m n : Counts) (links : Link
   done_kept : is_done (answer_on (unit_of kept) b more) ≡ true
   done_kept = ap (λ (w : Apu). is_done (answer_on w b more)) taken_up ∙ done_b
 
-  clear_b : wrong_in (records_of b) ≡ Clear
+  clear_b : wrong_in (records_of b) ≡ None
   clear_b = done_clear more (length (output (listed b) v)) (made_by (listed b) v) b done_b
 
   sum : sum_of (answer_on u a room) (answer_on v b more)
@@ -209,7 +208,7 @@ module _ (s a b place : List ℕ) (room more : ℕ) (m n : Counts) (links : Link
   followed : Followed s a b kept more m n
   followed = record { counts = counts; output = out; image = image }
     where
-      row : List Record
+      row : List Judged
       row = listed a ++ listed b
 
       both_told : log_in (done_with (plus m n)) ≡ sum_of (answer_on u a room) (answer_on v b more)

@@ -2,8 +2,8 @@
 -- Assumes nothing.
 use Rattle.std.specs.Prelude.{ℕ, ◌+◌, ◌≤◌, ◌≡◌, List, ◌++◌, length, get_or, drop}
 use Rattle.apu.specs.declared.Apu.{Apu}
+use Rattle.log_records.specs.Judge.{Judged}
 use Rattle.log_records.specs.Records.{version_of, listed}
-use Rattle.log_records.specs.declared.judge.Record.{Record}
 use Rattle.log_scan.specs.Sums.{asks, sum_of}
 use Rattle.log_scan.specs.declared.answer.LogAnswer.TheVariants.{Done}
 use Rattle.log_player.specs.Playing.{unit_of_start, output, unit_at_end}
@@ -55,7 +55,7 @@ pub record Links (s a b place : List ℕ) (room more : ℕ) (m n : Counts) : Typ
 
 -- then the records of both, in one row on the unit of s, whatever versions the logs are of: their numbers are those of both answers, they make a's output and
 -- then b's, and leave the unit whose image b left
-abbrev pub counts_of : List Record → Apu → Counts
+abbrev pub counts_of : List Judged → Apu → Counts
 counts_of l u = record { bytes = length (output l u); frames = made_by l u; calls = sum_of asks l; records = length l }
 
 pub record Followed (s a b kept : List ℕ) (more : ℕ) (m n : Counts) : Type 0 where

@@ -8,7 +8,7 @@ use lib.Dec.{T, leb→le, lit<}
 use Rattle.channel_noise.specs.Noise as channels
 use Rattle.channel_noise.specs.declared.noise_channel.NoiseChannel.{NoiseChannel}
 use Rattle.channel_groups.specs.NoiseGroups as groups
-use Rattle.channel_groups.specs.declared.noise_group.NoiseGroup.{NoiseGroup}
+use Rattle.channel_groups.specs.NoiseGroups.{NoiseGroup}
 use Rattle.image_fields.specs.Bytes.{row}
 use Rattle.image_parts.specs.Parts.{converter_bytes, length_bytes, envelope_bytes}
 use Rattle.image_parts.specs.Noise.{noise_channel_bytes, noise_channel_at, noise_channel_tests, noise_channel_fits}

@@ -11,7 +11,7 @@ use Rattle.channel_pulse.specs.declared.sweep.Sweep.{Sweep}
 use Rattle.channel_pulse.specs.Pulse as channels
 use Rattle.channel_pulse.specs.declared.pulse_channel.PulseChannel.{PulseChannel}
 use Rattle.channel_groups.specs.PulseGroups as groups
-use Rattle.channel_groups.specs.declared.pulse_group.PulseGroup.{PulseGroup}
+use Rattle.channel_groups.specs.PulseGroups.{PulseGroup}
 use Rattle.image_fields.specs.Bytes.{row}
 use Rattle.image_parts.specs.Parts.{converter_bytes, length_bytes, envelope_bytes}
 use Rattle.image_parts.specs.Pulse.{sweep_bytes, sweep_at, sweep_tests, sweep_fits}

@@ -10,7 +10,7 @@ use lib.Dec.{T, leb→le, lit<}
 use Rattle.channel_wave.specs.Wave as channels
 use Rattle.channel_wave.specs.declared.wave_channel.WaveChannel.{WaveChannel}
 use Rattle.channel_groups.specs.WaveGroups as groups
-use Rattle.channel_groups.specs.declared.wave_group.WaveGroup.{WaveGroup}
+use Rattle.channel_groups.specs.WaveGroups.{WaveGroup}
 use Rattle.image_fields.specs.Bytes.{row}
 use Rattle.image_fields.specs.Codes.{shift_fits}
 use Rattle.image_parts.specs.Parts.{converter_bytes, length_bytes}

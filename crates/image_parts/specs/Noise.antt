@@ -2,7 +2,7 @@
 use Rattle.std.specs.Prelude.{ℕ, ◌+◌, Bool, List, [], ◌∷◌, ◌++◌, get_or, leb}
 use Rattle.image_fields.specs.Bytes.{bit_of, is_one, is_flag, be2, two_at, all_of}
 use Rattle.channel_noise.specs.declared.noise_channel.NoiseChannel.{NoiseChannel}
-use Rattle.channel_groups.specs.declared.noise_group.NoiseGroup.{NoiseGroup}
+use Rattle.channel_groups.specs.NoiseGroups.{NoiseGroup}
 use Rattle.image_parts.specs.Parts.{converter_bytes, converter_at, converter_fits, length_bytes, length_at}
 use Rattle.image_parts.specs.Parts.{length_fits, envelope_bytes, envelope_at, envelope_fits}
 

@@ -3,7 +3,7 @@ use Rattle.std.specs.Prelude.{ℕ, ◌+◌, Bool, List, [], ◌∷◌, ◌++◌,
 use Rattle.image_fields.specs.Bytes.{bit_of, is_one, is_flag, be2, be8, two_at, eight_at, all_of}
 use Rattle.channel_pulse.specs.declared.sweep.Sweep.{Sweep}
 use Rattle.channel_pulse.specs.declared.pulse_channel.PulseChannel.{PulseChannel}
-use Rattle.channel_groups.specs.declared.pulse_group.PulseGroup.{PulseGroup}
+use Rattle.channel_groups.specs.PulseGroups.{PulseGroup}
 use Rattle.image_parts.specs.Parts.{converter_bytes, converter_at, converter_fits, length_bytes, length_at}
 use Rattle.image_parts.specs.Parts.{length_fits, envelope_bytes, envelope_at, envelope_fits}
 

@@ -4,7 +4,7 @@ use Rattle.std.specs.Prelude.{ℕ, ◌+◌, Bool, List, [], ◌∷◌, ◌++◌,
 use Rattle.image_fields.specs.Bytes.{bit_of, is_one, is_flag, be2, two_at, all_of, row}
 use Rattle.image_fields.specs.Codes.{shift_fits}
 use Rattle.channel_wave.specs.declared.wave_channel.WaveChannel.{WaveChannel}
-use Rattle.channel_groups.specs.declared.wave_group.WaveGroup.{WaveGroup}
+use Rattle.channel_groups.specs.WaveGroups.{WaveGroup}
 use Rattle.image_parts.specs.Parts.{converter_bytes, converter_at, converter_fits, length_bytes, length_at, length_fits}
 
 -- ---- wave RAM, 16 bytes

@@ -2,7 +2,7 @@
 // number and the number that it returns to standard error. TOO LONG there is a file of more bytes than it takes.
 #![tactic(auto)]
 
-use log_vgm::import::{Imported, import_log, refusal, returned};
+use log_vgm::import::{import_log, refusal, returned};
 use std::io::{self, ErrorKind, Read};
 
 // The most bytes of a file that it takes. (The library has no such bound.)
@@ -21,7 +21,7 @@ fn read_file(rt: &(impl Input + AllocGlobal)) -> io::Result<Vec<u8>> {
 fn import(rt: &(impl Print + Eprint), vgm: &[u8]) -> io::Result<()> {
     let mut log = [0; 65_536];
     match import_log(vgm, &mut log) {
-        Imported::Done { written } => rt.write_all(&log[..written as usize]),
+        Ok(written) => rt.write_all(&log[..written as usize]),
         refused => eprintln!(rt; "REFUSED {} {}", refusal(refused), returned(refused)),
     }
 }

@@ -7,6 +7,7 @@ use native.Mathlib.Nat.{zero-add, add_assoc}
 use native.Mathlib.Omega.{arith}
 use mathlib.Core.Bool.{true, false}
 use lib.ListN.{length, get_or, take, drop, length-append}
+use Rattle.std.specs.Prelude.{None, Ok, Err}
 use Rattle.ground.specs.Pick.{pick}
 use Rattle.ground.proofs.Cases.{both_ways}
 use Rattle.apu.specs.Held.{Held, FloatsHeld}
@@ -14,14 +15,12 @@ use Rattle.apu.specs.declared.Apu.{Apu}
 use Rattle.apu.proofs.Ranges.{write_held}
 use Rattle.apu.proofs.Floats.{write_floats}
 use Rattle.apu_run.proofs.Rows.{clocks_held, clocks_floats}
-use Rattle.log_records.specs.declared.judge.Record.{Record}
-use Rattle.log_records.specs.declared.judge.Record.TheVariants.{Write, Read, Clock, Pcm, Wrong}
+use Rattle.log_records.specs.declared.judge.Record.TheVariants.{Write, Read, Clock, Pcm}
 use Rattle.log_records.specs.declared.cut.Cut.{Cut}
 use Rattle.log_records.specs.declared.cut.Cut.TheVariants.{End, Short, Body}
-use Rattle.log_records.specs.Judge.{write_of, read_of, clock_of, pcm_of, judge_of}
+use Rattle.log_records.specs.Judge.{Judged, write_of, read_of, clock_of, pcm_of, judge_of}
 use Rattle.log_records.specs.Records.{Parsed, cut_at, body_at, grow, parse, records_from, unrolled, version_of, records_of, listed}
 use Rattle.log_records.proofs.Joining.{get_d_drop}
-use Rattle.log_scan.specs.declared.scan.Mark.TheVariants.{Clear}
 use Rattle.log_scan.specs.Scan.{wrong_in, summed, added}
 use Rattle.log_scan.specs.Answers.{is_done, too_long, done_as, scanned_as, within_room}
 use Rattle.log_scan.proofs.Done.{done_long, done_start, done_clear}
@@ -30,19 +29,19 @@ use Rattle.log_player.specs.Logs.{answer_on}
 use Rattle.log_player.specs.Playing.{bytes_of, unit_after, output, unit_at_end}
 use Rattle.log_player.specs.Frames.{made_of, made_by}
 
-pub unit_at_end_append : (xs ys : List Record) (a : Apu) → unit_at_end (xs ++ ys) a ≡ unit_at_end ys (unit_at_end xs a)
+pub unit_at_end_append : (xs ys : List Judged) (a : Apu) → unit_at_end (xs ++ ys) a ≡ unit_at_end ys (unit_at_end xs a)
 unfolding unit_at_end
 unit_at_end_append [] ys a = refl
 unit_at_end_append (r ∷ xs) ys a = unit_at_end_append xs ys (unit_after r a)
 
-pub output_append : (xs ys : List Record) (a : Apu) → output (xs ++ ys) a ≡ output xs a ++ output ys (unit_at_end xs a)
+pub output_append : (xs ys : List Judged) (a : Apu) → output (xs ++ ys) a ≡ output xs a ++ output ys (unit_at_end xs a)
 unfolding output unit_at_end
 output_append [] ys a = refl
 output_append (r ∷ xs) ys a =
     let b = unit_after r a in
     ap (λ (l : List ℕ). bytes_of r a ++ l) (output_append xs ys b) ∙ sym (append_assoc (bytes_of r a) (output xs b) (output ys (unit_at_end xs b)))
 
-pub made_by_append : (xs ys : List Record) (a : Apu) → made_by (xs ++ ys) a ≡ made_by xs a + made_by ys (unit_at_end xs a)
+pub made_by_append : (xs ys : List Judged) (a : Apu) → made_by (xs ++ ys) a ≡ made_by xs a + made_by ys (unit_at_end xs a)
 unfolding made_by unit_at_end
 made_by_append [] ys a = sym (zero-add (made_by ys a))
 made_by_append (r ∷ xs) ys a =
@@ -51,27 +50,27 @@ made_by_append (r ∷ xs) ys a =
 
 -- ---- ranges
 -- the value that a record writes, or 0
-abbrev pub value_in : Record → ℕ
-value_in (Write addr value) = value
-value_in (Read addr) = 0
-value_in (Clock double divider count) = 0
-value_in Pcm = 0
-value_in Wrong = 0
+abbrev pub value_in : Judged → ℕ
+value_in (Ok (Write addr value)) = value
+value_in (Ok (Read addr)) = 0
+value_in (Ok (Clock double divider count)) = 0
+value_in (Ok Pcm) = 0
+value_in (Err fault) = 0
 
 -- a row in which every value written is a byte
 infixr 4 ◌then◌
-pub data ByteValues : List Record → Type 0 where
+pub data ByteValues : List Judged → Type 0 where
   end : ByteValues []
-  ◌then◌ : {r : Record} {l : List Record} → value_in r ≤ 255 → ByteValues l → ByteValues (r ∷ l)
+  ◌then◌ : {r : Judged} {l : List Judged} → value_in r ≤ 255 → ByteValues l → ByteValues (r ∷ l)
 
-after_held : (r : Record) (a : Apu) → value_in r ≤ 255 → Held a × FloatsHeld a → Held (unit_after r a) × FloatsHeld (unit_after r a)
-after_held (Write addr value) a v h = (write_held a addr value v h.0, write_floats a addr value h.1)
-after_held (Read addr) a v h = h
-after_held (Clock d v k) a _ h = (clocks_held d v 0 k a h.0, clocks_floats d v 0 k a h.0 h.1)
-after_held Pcm a v h = h
-after_held Wrong a v h = h
+after_held : (r : Judged) (a : Apu) → value_in r ≤ 255 → Held a × FloatsHeld a → Held (unit_after r a) × FloatsHeld (unit_after r a)
+after_held (Ok (Write addr value)) a v h = (write_held a addr value v h.0, write_floats a addr value h.1)
+after_held (Ok (Read addr)) a v h = h
+after_held (Ok (Clock d v k)) a _ h = (clocks_held d v 0 k a h.0, clocks_floats d v 0 k a h.0 h.1)
+after_held (Ok Pcm) a v h = h
+after_held (Err fault) a v h = h
 
-pub unit_at_end_held : (l : List Record) (a : Apu) → ByteValues l → Held a × FloatsHeld a → Held (unit_at_end l a) × FloatsHeld (unit_at_end l a)
+pub unit_at_end_held : (l : List Judged) (a : Apu) → ByteValues l → Held a × FloatsHeld a → Held (unit_at_end l a) × FloatsHeld (unit_at_end l a)
 unfolding unit_at_end
 unit_at_end_held [] a end h = h
 unit_at_end_held (r ∷ l) a (v then vs) h = unit_at_end_held l (unit_after r a) vs (after_held r a v h)
@@ -89,7 +88,7 @@ take_bytes (suc n) (x ∷ s) h (suc i) = take_bytes n s (λ j. h (suc j)) i
 body_bytes : (s : List ℕ) (at n : ℕ) → AllBytes s → AllBytes (body_at s at n)
 body_bytes s at n h = take_bytes n (drop (at + 2) s) (λ i. rw (get_d_drop (at + 2) i s) (h (at + 2 + i)))
 
-abbrev Low : Record → Type 0
+abbrev Low : Judged → Type 0
 Low r = value_in r ≤ 255
 
 judged_byte : (v : ℕ) (s : List ℕ) → AllBytes s → Low (judge_of v s)
@@ -123,25 +122,25 @@ module _ (a : Apu) (s t : List ℕ) (same : version_of t ≡ version_of s) (room
   good : 2 ≤ length s
   good = done_long room (length (output (listed s) a)) (made_by (listed s) a) s done
 
-  whole : wrong_in (records_of s) ≡ Clear
+  whole : wrong_in (records_of s) ≡ None
   whole = done_clear room (length (output (listed s) a)) (made_by (listed s) a) s done
 
   both : listed (s ++ drop 2 t) ≡ listed s ++ listed t
   both = clear_listed_join s t good same whole
 
   pub output_join : output (listed (s ++ drop 2 t)) a ≡ output (listed s) a ++ output (listed t) (unit_at_end (listed s) a)
-  output_join = ap (λ (l : List Record). output l a) both ∙ output_append (listed s) (listed t) a
+  output_join = ap (λ (l : List Judged). output l a) both ∙ output_append (listed s) (listed t) a
 
   pub made_by_join : made_by (listed (s ++ drop 2 t)) a ≡ made_by (listed s) a + made_by (listed t) (unit_at_end (listed s) a)
-  made_by_join = ap (λ (l : List Record). made_by l a) both ∙ made_by_append (listed s) (listed t) a
+  made_by_join = ap (λ (l : List Judged). made_by l a) both ∙ made_by_append (listed s) (listed t) a
 
-  passes : too_long (s ++ drop 2 t) ≡ false → wrong_in (records_of t) ≡ Clear
+  passes : too_long (s ++ drop 2 t) ≡ false → wrong_in (records_of t) ≡ None
       → (n f : ℕ) → scanned_as n f (s ++ drop 2 t) ≡ done_as n f (summed (listed (s ++ drop 2 t)))
   unfolding scanned_as pick
   passes short clear n f = rw (short, start_join s (drop 2 t) good ∙ done_start room _ _ s done, clear_join s t good same whole clear)
 
   -- and what both in one log are answered, where it is not too long: the bytes, frames, clock calls and records of both
-  pub answer_join : (wide : ℕ) → too_long (s ++ drop 2 t) ≡ false → wrong_in (records_of t) ≡ Clear
+  pub answer_join : (wide : ℕ) → too_long (s ++ drop 2 t) ≡ false → wrong_in (records_of t) ≡ None
       → let b = unit_at_end (listed s) a in
       answer_on a (s ++ drop 2 t) wide
       ≡ within_room wide
@@ -157,4 +156,4 @@ module _ (a : Apu) (s t : List ℕ) (same : version_of t ≡ version_of s) (room
       (sums_join s t good same whole))
 
   pub unit_at_end_join : unit_at_end (listed (s ++ drop 2 t)) a ≡ unit_at_end (listed t) (unit_at_end (listed s) a)
-  unit_at_end_join = ap (λ (l : List Record). unit_at_end l a) both ∙ unit_at_end_append (listed s) (listed t) a
+  unit_at_end_join = ap (λ (l : List Judged). unit_at_end l a) both ∙ unit_at_end_append (listed s) (listed t) a

@@ -7,12 +7,12 @@ use native.Mathlib.Omega.{arith}
 use borrow.Author.Tests.{eqb-true, eqb-false, ne_eqb, lt-ltb, le-ltb, leb-false}
 use lib.Dec.{eqb, leb}
 use lib.ListN.{length, get_or}
+use Rattle.std.specs.Prelude.{Ok}
 use Rattle.ground.specs.Pick.{pick}
 use Rattle.ground.specs.Num.{is_sound}
 use Rattle.ground.proofs.Cases.{both_ways, pick_true, pick_false, and_left, and_right}
-use Rattle.log_records.specs.Judge.{word, write_of, read_of, clock_of, pcm_of, judge_of}
-use Rattle.log_records.specs.declared.judge.Record.{Record}
-use Rattle.log_records.specs.declared.judge.Record.TheVariants.{Write, Wrong}
+use Rattle.log_records.specs.Judge.{Judged, wrong, word, write_of, read_of, clock_of, pcm_of, judge_of}
+use Rattle.log_records.specs.declared.judge.Record.TheVariants.{Write}
 use Rattle.log_player.specs.Bodies.{no_write, group_at, group_write_of, group_write_in}
 
 -- a wrong address is no group's
@@ -30,10 +30,10 @@ high_none addr value l =
     let e : 0xFF24 ≤ addr = omega arith in
     rw (le-ltb addr 0xFF11 a, le-ltb addr 0xFF15 b, le-ltb addr 0xFF1A c, le-ltb addr 0xFF1F d, le-ltb addr 0xFF24 e)
 
-judged_write : (addr value : ℕ) → group_write_of (pick (is_sound addr) (Write addr value) Wrong) ≡ group_at addr value
+judged_write : (addr value : ℕ) → group_write_of (pick (is_sound addr) (Ok (Write addr value)) wrong) ≡ group_at addr value
 judged_write addr value = go (leb 0xFF10 addr) (leb addr 0xFF3F) refl refl
   where
-    go : (a b : Bool) → leb 0xFF10 addr ≡ a → leb addr 0xFF3F ≡ b → group_write_of (pick (a && b) (Write addr value) Wrong) ≡ group_at addr value
+    go : (a b : Bool) → leb 0xFF10 addr ≡ a → leb addr 0xFF3F ≡ b → group_write_of (pick (a && b) (Ok (Write addr value)) wrong) ≡ group_at addr value
     go true true x y = unfold pick in refl
     go true false x y = unfold pick in sym (high_none addr value (leb-false addr 0xFF3F y))
     go false b x y = unfold pick in sym (low_none addr value (leb-false 0xFF10 addr x))
@@ -46,7 +46,7 @@ write_grouped v s power four e =
     rw (and_left power _ e, four, eqb-true (get_or s 0 0) 1 (and_right power _ e)) (judged_write (word s 1) (get_or s 3 0))
 
 -- ---- any other
-None : Record → Type 0
+None : Judged → Type 0
 None r = group_write_of r ≡ no_write
 
 -- of no kind but 01 is one a write

@@ -5,9 +5,10 @@ use mathlib.Core.Bool.{true, false}
 use mathlib.Core.List.{List, [], ◌∷◌, ◌++◌, append-nil, append_assoc}
 use native.Mathlib.Nat.{sub-zero}
 use native.Mathlib.Omega.{arith}
+use Rattle.std.specs.Prelude.{Ok}
 use Rattle.ground.specs.Pick.{pick}
 use Rattle.ground.specs.Iterate.{iterate}
-use Rattle.log_records.specs.declared.judge.Record.{Record}
+use Rattle.log_records.specs.Judge.{Judged}
 use Rattle.log_records.specs.declared.judge.Record.TheVariants.{Clock}
 use Rattle.log_records.specs.declared.judge.Clocks.{Clocks}
 use Rattle.log_records.specs.Records.{Parsed, clocks_at, clock_end, records_from, unrolled}
@@ -21,18 +22,18 @@ use Rattle.log_player.specs.Playing.{bytes_of, unit_after, output, unit_at_end}
 use Rattle.log_player.specs.Coming.{records_on, calls_on, coming_at, Between, ahead, stepped, stepped_on}
 
 -- ---- rows of records
-abbrev pub record_on : Record → Take → Take
+abbrev pub record_on : Judged → Take → Take
 record_on r t = record { apu = unit_after r t.apu; bytes = t.bytes ++ bytes_of r t.apu }
 
 pub records_none : (t : Take) → records_on [] t ≡ t
 unfolding output unit_at_end
 records_none t = ap (λ (y : List ℕ). record { apu = t.apu; bytes = y }) (append-nil t.bytes)
 
-pub records_first : (r : Record) (l : List Record) (t : Take) → records_on (r ∷ l) t ≡ records_on l (record_on r t)
+pub records_first : (r : Judged) (l : List Judged) (t : Take) → records_on (r ∷ l) t ≡ records_on l (record_on r t)
 unfolding output unit_at_end
 records_first r l t = ap (λ (y : List ℕ). record { apu = unit_at_end l (unit_after r t.apu); bytes = y }) (sym (append_assoc t.bytes _ _))
 
-records_behind : (l : List Record) (x : List ℕ) (t : Take) → records_on l (front x t) ≡ front x (records_on l t)
+records_behind : (l : List Judged) (x : List ℕ) (t : Take) → records_on l (front x t) ≡ front x (records_on l t)
 records_behind l x t = ap (λ (y : List ℕ). record { apu = unit_at_end l t.apu; bytes = y }) (append_assoc x t.bytes (output l t.apu))
 
 -- the bytes before stay in front
@@ -55,7 +56,7 @@ module _ (v : ℕ) (s : List ℕ) (at : ℕ) where
   abbrev c : Clocks
   c = clocks_at v s at
 
-  abbrev after : List Record
+  abbrev after : List Judged
   after = unrolled (records_from v s (clock_end v at))
 
   -- what is to come of a clock record's calls and of the records after it
@@ -66,7 +67,7 @@ module _ (v : ℕ) (s : List ℕ) (at : ℕ) where
   unfolding coming_at
   coming_calls right zero t =
       ap (λ (p : Parsed). records_on (unrolled p) t) (clocks_stand v s at right).is
-      ∙ records_first (Clock c.double c.divider c.count) after t
+      ∙ records_first (Ok (Clock c.double c.divider c.count)) after t
       ∙ ap (λ (n : ℕ). records_on after (rows c.double c.divider 0 n t)) (sym (sub-zero c.count))
   coming_calls right (suc i) t = refl
 

@@ -1,15 +1,15 @@
 -- Calls that see the same dividers do the same, and the divider some calls on is the one of a record that begins there. Assumes nothing.
 use Prim.Native.Nat.{ℕ, zero, suc, ◌+◌, ◌/◌, ◌%◌, ◌≤◌, ◌<◌}
 use mathlib.Core.Path.{◌≡◌, refl, sym, ◌∙◌, ap}
-use mathlib.Core.Bool.{Bool, true, false}
+use mathlib.Core.Bool.{Bool}
 use native.Mathlib.Nat.{zero-add, add-zero, add-suc}
 use native.Mathlib.Omega.{arith}
-use Rattle.ground.specs.Pick.{pick}
 use Rattle.apu_run.specs.Working.{Take}
 use Rattle.apu_run.proofs.Rows.{call_on, rows, rows_none, rows_first, rows_split}
 use Rattle.apu_run.proofs.Turns.{none}
-use Rattle.log_records.specs.Divider.{standing, running, divider_at}
+use Rattle.log_records.specs.Divider.{divider_at}
 use Rattle.log_records.specs.declared.divider.Divider.{Divider}
+use Rattle.log_records.specs.declared.divider.Divider.TheVariants.{Standing, Running}
 use Rattle.log_player.specs.Cuts.{onward, Cuts}
 
 -- ---- n calls of one record, from call m on, and those of another
@@ -27,18 +27,12 @@ module _ (double : Bool) (d e : Divider) (m n : ℕ) (same : (i : ℕ) → i < n
 
 -- ---- some calls on
 onward_at : (d : Divider) (j i : ℕ) → divider_at d (j + i) ≡ divider_at (onward d j) i
-unfolding divider_at pick
-onward_at d j i = go d.runs
+unfolding divider_at
+onward_at (Standing byte) j i = refl
+onward_at (Running byte phase) j i = steps byte phase j i
   where
     steps : (b p j i : ℕ) → (b + (p + (j + i)) / 64) % 256 ≡ ((b + (p + j) / 64) % 256 + ((p + j) % 64 + i) / 64) % 256
     steps b p j i = omega arith
-
-    go : (runs : Bool)
-        → pick runs ((d.byte + (d.phase + (j + i)) / 64) % 256) d.byte
-        ≡ pick runs ((pick runs ((d.byte + (d.phase + j) / 64) % 256) d.byte + (pick runs ((d.phase + j) % 64) d.phase + i) / 64) % 256)
-        (pick runs ((d.byte + (d.phase + j) / 64) % 256) d.byte)
-    go true = steps d.byte d.phase j i
-    go false = refl
 
 cut : (double : Bool) (d : Divider) (j k : ℕ) (t : Take) → rows double d 0 (j + k) t ≡ rows double (onward d j) 0 k (rows double d 0 j t)
 cut double d j k t =
@@ -51,11 +45,11 @@ cut double d j k t =
 
 -- ---- before the next step
 near : (double : Bool) (byte phase count : ℕ) (t : Take) → byte ≤ 255 → phase + count ≤ 64
-    → rows double (running byte phase) 0 count t ≡ rows double (standing byte) 0 count t
-unfolding divider_at pick
-near double byte phase count t b h = alike double (running byte phase) (standing byte) 0 count (λ i l. same byte phase count i b h l) 0 count t (within count)
+    → rows double (Running byte phase) 0 count t ≡ rows double (Standing byte) 0 count t
+unfolding divider_at
+near double byte phase count t b h = alike double (Running byte phase) (Standing byte) 0 count (λ i l. same byte phase count i b h l) 0 count t (within count)
   where
-    same : (byte phase count i : ℕ) → byte ≤ 255 → phase + count ≤ 64 → i < count → divider_at (running byte phase) (0 + i) ≡ divider_at (standing byte) i
+    same : (byte phase count i : ℕ) → byte ≤ 255 → phase + count ≤ 64 → i < count → divider_at (Running byte phase) (0 + i) ≡ divider_at (Standing byte) i
     same byte phase count i b h l = omega arith
 
     within : (k : ℕ) → 0 + k ≤ k

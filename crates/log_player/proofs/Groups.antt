@@ -6,12 +6,13 @@ use mathlib.Core.List.{[]}
 use native.Mathlib.Omega.{arith}
 use borrow.Author.Tests.{lt-ltb, le-leb, ltb-true, ltb-false}
 use lib.Dec.{eqb, ltb}
+use Rattle.std.specs.Prelude.{Ok, Err}
 use Rattle.ground.specs.Pick.{pick}
 use Rattle.ground.proofs.Cases.{pick_holds}
 use Rattle.clocks.specs.Position.{next_of, next_even}
-use Rattle.channel_groups.specs.declared.pulse_group.PulseGroup.{PulseGroup}
-use Rattle.channel_groups.specs.declared.wave_group.WaveGroup.{WaveGroup}
-use Rattle.channel_groups.specs.declared.noise_group.NoiseGroup.{NoiseGroup}
+use Rattle.channel_groups.specs.PulseGroups.{PulseGroup}
+use Rattle.channel_groups.specs.WaveGroups.{WaveGroup}
+use Rattle.channel_groups.specs.NoiseGroups.{NoiseGroup}
 use Rattle.channel_groups.specs.PulseGroups as pulse
 use Rattle.channel_groups.specs.WaveGroups as wave
 use Rattle.channel_groups.specs.NoiseGroups as noise
@@ -21,8 +22,8 @@ use Rattle.apu.specs.declared.Apu.{Apu}
 use Rattle.apu.proofs.Offsets.{at_pulse1, at_pulse2, at_wave, at_noise}
 use Rattle.apu.proofs.Ranges.{write_held}
 use Rattle.apu.proofs.Floats.{write_floats}
-use Rattle.log_records.specs.declared.judge.Record.{Record}
-use Rattle.log_records.specs.declared.judge.Record.TheVariants.{Write, Read, Clock, Pcm, Wrong}
+use Rattle.log_records.specs.Judge.{Judged}
+use Rattle.log_records.specs.declared.judge.Record.TheVariants.{Write, Read, Clock, Pcm}
 use Rattle.apu_run.proofs.Ranges.{Ready}
 use Rattle.log_player.specs.declared.body.GroupWrite.{GroupWrite}
 use Rattle.log_player.specs.Playing.{bytes_of, unit_after}
@@ -137,23 +138,23 @@ wrote a addr value on =
     P : GroupWrite → Type 0
     P w = (w.group ≡ 0 → ⊥) → (w.value ≡ value) × ((write_of a addr value).apu ≡ group_written w a)
 
-pub record Grouped (x : Record) (w : GroupWrite) (a : Apu) : Type 0 where
+pub record Grouped (x : Judged) (w : GroupWrite) (a : Apu) : Type 0 where
   pub quiet : bytes_of x a ≡ []
   pub is : unit_after x a ≡ group_written w a
   pub ready : Ready (unit_after x a)
 
 -- no other record is one
-none : {x : Record} {a : Apu} (w : GroupWrite) → (b : Bool) → w ≡ pick b no_write no_write → (w.group ≡ 0 → ⊥) → Grouped x w a
+none : {x : Judged} {a : Apu} (w : GroupWrite) → (b : Bool) → w ≡ pick b no_write no_write → (w.group ≡ 0 → ⊥) → Grouped x w a
 unfolding pick
 none w true e n = absurd (n (ap (λ (v : GroupWrite). v.group) e))
 none w false e n = absurd (n (ap (λ (v : GroupWrite). v.group) e))
 
-pub grouped : (x : Record) (w : GroupWrite) (a : Apu) → w ≡ pick a.power (group_write_of x) no_write → (w.group ≡ 0 → ⊥) → w.value ≤ 255 → Ready a
+pub grouped : (x : Judged) (w : GroupWrite) (a : Apu) → w ≡ pick a.power (group_write_of x) no_write → (w.group ≡ 0 → ⊥) → w.value ≤ 255 → Ready a
     → Grouped x w a
 unfolding pick
-grouped (Write addr value) w a e n v h = go a.power refl e
+grouped (Ok (Write addr value)) w a e n v h = go a.power refl e
   where
-    go : (b : Bool) → a.power ≡ b → w ≡ pick b (group_at addr value) no_write → Grouped (Write addr value) w a
+    go : (b : Bool) → a.power ≡ b → w ≡ pick b (group_at addr value) no_write → Grouped (Ok (Write addr value)) w a
     go true on i =
         let all = wrote a addr value on (rw (← i) n) in
         let same : w.value ≡ value = rw i all.0 in
@@ -163,7 +164,7 @@ grouped (Write addr value) w a e n v h = go a.power refl e
           ready = record { held = write_held a addr value (rw (← same) v) h.held; floats = write_floats a addr value h.floats };
         }
     go false off i = none w true i n
-grouped (Read addr) w a e n v h = none w a.power e n
-grouped (Clock double divider count) w a e n v h = none w a.power e n
-grouped Pcm w a e n v h = none w a.power e n
-grouped Wrong w a e n v h = none w a.power e n
+grouped (Ok (Read addr)) w a e n v h = none w a.power e n
+grouped (Ok (Clock double divider count)) w a e n v h = none w a.power e n
+grouped (Ok Pcm) w a e n v h = none w a.power e n
+grouped (Err fault) w a e n v h = none w a.power e n

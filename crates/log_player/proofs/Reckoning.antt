@@ -8,9 +8,9 @@ use Rattle.ground.specs.Pick.{pick}
 use Rattle.ground.specs.Iterate.{iterate}
 use Rattle.apu.specs.declared.Apu.{Apu}
 use Rattle.apu_clock.specs.Sequencer.{bit_of, advanced}
+use Rattle.log_records.specs.Judge.{Judged}
 use Rattle.log_records.specs.declared.judge.Clocks.{Clocks}
 use Rattle.log_records.specs.Records.{clocks_at, clock_end, records_from, unrolled}
-use Rattle.log_records.specs.declared.judge.Record.{Record}
 use Rattle.log_records.proofs.Framing.{clocks_stand}
 use Rattle.apu_run.specs.Working.{Take, working_on, ran_of}
 use Rattle.log_records.specs.Divider.{divider_at}
@@ -176,7 +176,7 @@ module _
     (t : Turn v s power r c some m)
     (p : Past t r')
   where
-    abbrev after : List Record
+    abbrev after : List Judged
     after = unrolled (records_from v s (clock_end v r.at))
 
     working_few : m.working ≤ 16384

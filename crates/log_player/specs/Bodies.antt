@@ -1,12 +1,11 @@
 -- The record at a place: where its body ends, and the write to one group's registers that it may be. For the code of `play_list` and its proof alone: what a
 -- record does is said in Playing.antt. Assumes nothing.
-use Rattle.std.specs.Prelude.{ℕ, ◌+◌, ◌-◌, Bool, true, false, ◌&&◌, List, eqb, ltb, length, get_or}
+use Rattle.std.specs.Prelude.{ℕ, ◌+◌, ◌-◌, Bool, true, false, ◌&&◌, List, eqb, ltb, length, get_or, Ok, Err}
 use Rattle.ground.specs.Pick.{pick}
 use Rattle.log_records.specs.declared.cut.Cut.{Cut}
 use Rattle.log_records.specs.declared.cut.Cut.TheVariants.{End, Short, Body}
-use Rattle.log_records.specs.Judge.{word}
-use Rattle.log_records.specs.declared.judge.Record.{Record}
-use Rattle.log_records.specs.declared.judge.Record.TheVariants.{Write, Read, Clock, Pcm, Wrong}
+use Rattle.log_records.specs.Judge.{Judged, word}
+use Rattle.log_records.specs.declared.judge.Record.TheVariants.{Write, Read, Clock, Pcm}
 use Rattle.log_player.specs.declared.body.Part.{Part}
 use Rattle.log_player.specs.declared.body.GroupWrite.{GroupWrite}
 
@@ -30,12 +29,12 @@ group_at addr value =
     no_write))))
 
 -- the write that a record is
-abbrev pub group_write_of : Record → GroupWrite
-group_write_of (Write addr value) = group_at addr value
-group_write_of (Read addr) = no_write
-group_write_of (Clock double divider count) = no_write
-group_write_of Pcm = no_write
-group_write_of Wrong = no_write
+abbrev pub group_write_of : Judged → GroupWrite
+group_write_of (Ok (Write addr value)) = group_at addr value
+group_write_of (Ok (Read addr)) = no_write
+group_write_of (Ok (Clock double divider count)) = no_write
+group_write_of (Ok Pcm) = no_write
+group_write_of (Err fault) = no_write
 
 -- "01 addr value" in every version: the write that a body by itself is with power on
 unfoldable pub group_write_in : List ℕ → Bool → GroupWrite

@@ -8,7 +8,7 @@ use Rattle.apu_clock.specs.Sequencer.{advanced, idles_of}
 use Rattle.apu_run.specs.Working.{Take, working_on, ran_of}
 use Rattle.apu_run.specs.Calls.{clocks_bytes, after_clocks}
 use Rattle.apu_run.specs.Owed.{marked}
-use Rattle.log_records.specs.declared.judge.Record.{Record}
+use Rattle.log_records.specs.Judge.{Judged}
 use Rattle.log_records.specs.declared.judge.Clocks.{Clocks}
 use Rattle.log_records.specs.Records.{clocks_at, clock_end, records_from, unrolled}
 use Rattle.log_player.specs.declared.reckon.Reckoned.{Reckoned}
@@ -17,7 +17,7 @@ use Rattle.log_player.specs.Playing.{output, unit_at_end}
 -- ---- what is to come, on a unit and the bytes that it has made
 
 -- a row of records
-abbrev pub records_on : List Record → Take → Take
+abbrev pub records_on : List Judged → Take → Take
 records_on l t = record { apu = unit_at_end l t.apu; bytes = t.bytes ++ output l t.apu }
 
 -- the calls of a clock record from call i on

@@ -7,12 +7,12 @@ use native.Mathlib.Omega.{arith}
 use borrow.Author.Tests.{ltb-false, leb-false, leb-true, eqb-true, lt-leb, le-ltb}
 use lib.ListN.{length}
 use lib.Dec.{ltb, leb, eqb}
+use Rattle.std.specs.Prelude.{Ok}
 use Rattle.ground.specs.Pick.{pick}
 use Rattle.log_records.specs.declared.cut.Cut.TheVariants.{End, Short, Body}
-use Rattle.log_records.specs.declared.judge.Record.{Record}
 use Rattle.log_records.specs.declared.judge.Record.TheVariants.{Clock}
 use Rattle.log_records.specs.declared.judge.Clocks.{Clocks}
-use Rattle.log_records.specs.Judge.{word, clock_length, judge_of, no_clocks, clocks_of}
+use Rattle.log_records.specs.Judge.{Judged, word, clock_length, judge_of, no_clocks, clocks_of}
 use Rattle.log_records.specs.Records.{done, short, item, cut_at, body_at, clocks_at, clock_end, grow, records_from, records_step, unrolled}
 use Rattle.log_records.proofs.Judged.{clock_long, clock_is, clock_ends, clocks_few}
 
@@ -94,7 +94,7 @@ pub record Stands (v : ℕ) (s : List ℕ) (at : ℕ) (c : Clocks) : Type 0 wher
   pub ends : c.end ≡ clock_end v at
   pub some : 1 ≤ c.count
   pub few : c.count ≤ 16384
-  pub is : records_from v s at ≡ item at (Clock c.double c.divider c.count) (records_from v s (clock_end v at))
+  pub is : records_from v s at ≡ item at (Ok (Clock c.double c.divider c.count)) (records_from v s (clock_end v at))
 
 pub clocks_stand : (v : ℕ) (s : List ℕ) (at : ℕ) → (clocks_at v s at).right ≡ true → Stands v s at (clocks_at v s at)
 unfolding clocks_at pick
@@ -119,7 +119,7 @@ clocks_stand v s at = go (leb (at + 2 + n) (length s)) (eqb (word s at) n) refl 
           few = few.1;
           is =
               at_body v s at n (some_cut s at n fits (eqb-true (word s at) n y))
-              ∙ ap (λ (r : Record). item at r (records_from v s (at + 2 + n))) (clock_is (clock_end v at) (judge_of v body) e);
+              ∙ ap (λ (r : Judged). item at r (records_from v s (at + 2 + n))) (clock_is (clock_end v at) (judge_of v body) e);
         }
     go true false x y e = let z : ◌≡◌ {A = ℕ} 0 1 = cc in absurd (omega arith)
     go false b x y e = let z : ◌≡◌ {A = ℕ} 0 1 = cc in absurd (omega arith)

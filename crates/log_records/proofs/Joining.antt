@@ -11,8 +11,7 @@ use lib.ListN.{length, get_or, take, drop, length-drop, length-append, get_or-ap
 use lib.Dec.{leb}
 use Rattle.log_records.specs.declared.cut.Cut.{Cut}
 use Rattle.log_records.specs.declared.cut.Cut.TheVariants.{End, Short, Body}
-use Rattle.log_records.specs.declared.judge.Record.{Record}
-use Rattle.log_records.specs.Judge.{word, judge_of}
+use Rattle.log_records.specs.Judge.{Judged, word, judge_of}
 use Rattle.log_records.specs.Records.{Parsed, done, short, item, cut_at, body_at, grow, records_from, records_step, unrolled}
 use Rattle.log_records.specs.Records.{listed_as, version_of, listed}
 use Rattle.log_records.proofs.Framing.{body_fits, body_is, end_past, some_cut, at_end, at_short, at_body}
@@ -68,13 +67,13 @@ pub unrolled_placeless : (p : Parsed) → unrolled (placeless p) ≡ unrolled p
 unfolding placeless
 unrolled_placeless done = refl
 unrolled_placeless (short p) = refl
-unrolled_placeless (item p r rest) = ap (λ (l : List Record). r ∷ l) (unrolled_placeless rest)
+unrolled_placeless (item p r rest) = ap (λ (l : List Judged). r ∷ l) (unrolled_placeless rest)
 
 unrolled_joined : (p q : Parsed) → whole p ≡ true → unrolled (joined (placeless p) (placeless q)) ≡ unrolled p ++ unrolled q
 unfolding placeless joined whole
 unrolled_joined done q w = unrolled_placeless q
 unrolled_joined (short p) q w = let z : ◌≡◌ {A = ℕ} 0 1 = cc in absurd (omega arith)
-unrolled_joined (item p r rest) q w = ap (λ (l : List Record). r ∷ l) (unrolled_joined rest q w)
+unrolled_joined (item p r rest) q w = ap (λ (l : List Judged). r ∷ l) (unrolled_joined rest q w)
 
 -- ---- a log without its first k bytes
 module _ (v : ℕ) (s : List ℕ) (k : ℕ) where
@@ -101,7 +100,7 @@ module _ (v : ℕ) (s : List ℕ) (k : ℕ) where
   unfolding placeless
   first_shift i End rest = refl
   first_shift i Short rest = refl
-  first_shift i (Body n) rest = ap₂ (λ (r : Record) (p : Parsed). item 0 r p) (ap (judge_of v) (body_shift i n)) (rest n refl)
+  first_shift i (Body n) rest = ap₂ (λ (r : Judged) (p : Parsed). item 0 r p) (ap (judge_of v) (body_shift i n)) (rest n refl)
 
   step_shift : (i : ℕ)
       → ((n : ℕ) → cut_at s (k + i) ≡ Body n → placeless (records_from v (drop k s) (i + 2 + n)) ≡ placeless (records_from v s (k + i + 2 + n)))

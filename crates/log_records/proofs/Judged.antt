@@ -7,20 +7,22 @@ use native.Mathlib.Omega.{arith}
 use lib.Dec.{leb, eqb}
 use lib.ListN.{length, get_or}
 use borrow.Author.Tests.{leb-true, eqb-true, eq-eqb, ne_eqb}
+use Rattle.std.specs.Prelude.{Ok, Err}
 use Rattle.ground.specs.Pick.{pick}
 use Rattle.ground.proofs.Cases.{both_ways, pick_holds, pick_false, and_left, and_right}
-use Rattle.log_records.specs.Judge.{write_of, read_of, clock_length, divider_in, count_in, fair_of, clock_of, pcm_of, judge_of, no_clocks, clocks_of}
+use Rattle.log_records.specs.Divider.{phase_of}
+use Rattle.log_records.specs.Judge.{Judged, wrong, write_of, read_of, clock_of, pcm_of, judge_of, no_clocks, clocks_of}
+use Rattle.log_records.specs.Judge.{clock_length, divider_in, count_in, fair_of}
 use Rattle.log_records.specs.declared.divider.Divider.{Divider}
-use Rattle.log_records.specs.declared.judge.Record.{Record}
-use Rattle.log_records.specs.declared.judge.Record.TheVariants.{Write, Read, Clock, Pcm, Wrong}
+use Rattle.log_records.specs.declared.judge.Record.TheVariants.{Write, Read, Clock, Pcm}
 
 -- some calls, and no more than 16,384
-abbrev Few : Record → Type 0
-Few (Write addr value) = Unit
-Few (Read addr) = Unit
-Few (Clock double divider count) = (1 ≤ count) × (count ≤ 16384)
-Few Pcm = Unit
-Few Wrong = Unit
+abbrev Few : Judged → Type 0
+Few (Ok (Write addr value)) = Unit
+Few (Ok (Read addr)) = Unit
+Few (Ok (Clock double divider count)) = (1 ≤ count) × (count ≤ 16384)
+Few (Ok Pcm) = Unit
+Few (Err fault) = Unit
 
 fair_few : (speed phase count : ℕ) → fair_of speed phase count ≡ true → (1 ≤ count) × (count ≤ 16384)
 fair_few speed phase count e =
@@ -32,7 +34,7 @@ clock_is_few : (version : ℕ) (s : List ℕ) → Few (clock_of version s)
 unfolding clock_of
 clock_is_few v s =
     both_ways Few _
-    (pick_holds Few _ (Clock _ _ (count_in v s)) Wrong (fair_few (get_or s 1 0) (divider_in v s).phase (count_in v s)) (λ _. tt))
+    (pick_holds Few _ (Ok (Clock _ _ (count_in v s))) wrong (fair_few (get_or s 1 0) (phase_of (divider_in v s)) (count_in v s)) (λ _. tt))
     tt
 
 judged_few : (version : ℕ) (s : List ℕ) → Few (judge_of version s)
@@ -45,7 +47,8 @@ judged_few v s =
     (both_ways Few _ (both_ways Few _ tt tt)
     tt))))
 
-pub clock_few : (version : ℕ) (s : List ℕ) (double : Bool) (divider : Divider) (count : ℕ) → judge_of version s ≡ Clock double divider count → count ≤ 16384
+pub clock_few : (version : ℕ) (s : List ℕ) (double : Bool) (divider : Divider) (count : ℕ)
+    → judge_of version s ≡ Ok (Clock double divider count) → count ≤ 16384
 clock_few v s double divider count e = (subst Few e (judged_few v s)).1
 
 -- ---- a body of a clock record's length: one, by its kind, speed, phase and count, or none
@@ -61,7 +64,7 @@ other_kind end v s e =
     (both_ways None _ (both_ways None _ (both_ways None _ refl refl) refl)
     (rw (pick_false _ _ _ e) (both_ways None _ (both_ways None _ refl refl) refl))))
   where
-    None : Record → Type 0
+    None : Judged → Type 0
     None r = clocks_of end r ≡ no_clocks
 
 module _ (end v : ℕ) (s : List ℕ) (long : length s ≡ clock_length v) where
@@ -72,7 +75,7 @@ module _ (end v : ℕ) (s : List ℕ) (long : length s ≡ clock_length v) where
       rw (ne_eqb (length s) 0 some, eqb-true (get_or s 0 0) 3 e)
 
   abbrev fair : Bool
-  fair = fair_of (get_or s 1 0) (divider_in v s).phase (count_in v s)
+  fair = fair_of (get_or s 1 0) (phase_of (divider_in v s)) (count_in v s)
 
   pub clocks_right : (eqb (get_or s 0 0) 3 && fair) ≡ true
       → clocks_of end (judge_of v s) ≡ record { right = true; double = eqb (get_or s 1 0) 1; divider = divider_in v s; count = count_in v s; end = end }
@@ -89,20 +92,20 @@ module _ (end v : ℕ) (s : List ℕ) (long : length s ≡ clock_length v) where
       go false k h = other_kind end v s k
 
 -- ---- and the record that it is
-pub clock_is : (end : ℕ) (r : Record) → (clocks_of end r).right ≡ true → let c = clocks_of end r in r ≡ Clock c.double c.divider c.count
-clock_is end (Write addr value) e = let z : ◌≡◌ {A = ℕ} 0 1 = cc in absurd (omega arith)
-clock_is end (Read addr) e = let z : ◌≡◌ {A = ℕ} 0 1 = cc in absurd (omega arith)
-clock_is end (Clock double divider count) e = refl
-clock_is end Pcm e = let z : ◌≡◌ {A = ℕ} 0 1 = cc in absurd (omega arith)
-clock_is end Wrong e = let z : ◌≡◌ {A = ℕ} 0 1 = cc in absurd (omega arith)
+pub clock_is : (end : ℕ) (r : Judged) → (clocks_of end r).right ≡ true → let c = clocks_of end r in r ≡ Ok (Clock c.double c.divider c.count)
+clock_is end (Ok (Write addr value)) e = let z : ◌≡◌ {A = ℕ} 0 1 = cc in absurd (omega arith)
+clock_is end (Ok (Read addr)) e = let z : ◌≡◌ {A = ℕ} 0 1 = cc in absurd (omega arith)
+clock_is end (Ok (Clock double divider count)) e = refl
+clock_is end (Ok Pcm) e = let z : ◌≡◌ {A = ℕ} 0 1 = cc in absurd (omega arith)
+clock_is end (Err fault) e = let z : ◌≡◌ {A = ℕ} 0 1 = cc in absurd (omega arith)
 
 -- which ends where it was said
-pub clock_ends : (end : ℕ) (r : Record) → (clocks_of end r).right ≡ true → (clocks_of end r).end ≡ end
-clock_ends end (Write addr value) e = let z : ◌≡◌ {A = ℕ} 0 1 = cc in absurd (omega arith)
-clock_ends end (Read addr) e = let z : ◌≡◌ {A = ℕ} 0 1 = cc in absurd (omega arith)
-clock_ends end (Clock double divider count) e = refl
-clock_ends end Pcm e = let z : ◌≡◌ {A = ℕ} 0 1 = cc in absurd (omega arith)
-clock_ends end Wrong e = let z : ◌≡◌ {A = ℕ} 0 1 = cc in absurd (omega arith)
+pub clock_ends : (end : ℕ) (r : Judged) → (clocks_of end r).right ≡ true → (clocks_of end r).end ≡ end
+clock_ends end (Ok (Write addr value)) e = let z : ◌≡◌ {A = ℕ} 0 1 = cc in absurd (omega arith)
+clock_ends end (Ok (Read addr)) e = let z : ◌≡◌ {A = ℕ} 0 1 = cc in absurd (omega arith)
+clock_ends end (Ok (Clock double divider count)) e = refl
+clock_ends end (Ok Pcm) e = let z : ◌≡◌ {A = ℕ} 0 1 = cc in absurd (omega arith)
+clock_ends end (Err fault) e = let z : ◌≡◌ {A = ℕ} 0 1 = cc in absurd (omega arith)
 
 pub clocks_few : (end version : ℕ) (s : List ℕ) → let c = clocks_of end (judge_of version s) in c.right ≡ true → (1 ≤ c.count) × (c.count ≤ 16384)
 clocks_few end v s e = subst Few (clock_is end (judge_of v s) e) (judged_few v s)

@@ -1,16 +1,18 @@
 -- The divider that the calls of a clock record see, from document 01, "The access log", and request 2026-02. Assumes nothing.
-use Rattle.std.specs.Prelude.{ℕ, ◌+◌, ◌/◌, ◌%◌, true, false}
-use Rattle.ground.specs.Pick.{pick}
+use Rattle.std.specs.Prelude.{ℕ, ◌+◌, ◌/◌, ◌%◌}
 use Rattle.log_records.specs.declared.divider.Divider.{Divider}
+use Rattle.log_records.specs.declared.divider.Divider.TheVariants.{Standing, Running}
 
--- version 1: "calls with that one divider"
-abbrev pub standing : ℕ → Divider
-standing byte = record { byte = byte; phase = 0; runs = false }
+-- version 1: "calls with that one divider"; version 2: "a phase byte .. after the divider". One that stands has no phase: 0
+abbrev pub byte_of : Divider → ℕ
+byte_of (Standing byte) = byte
+byte_of (Running byte phase) = byte
 
--- version 2: "a phase byte .. after the divider"
-abbrev pub running : ℕ → ℕ → Divider
-running byte phase = record { byte = byte; phase = phase; runs = true }
+abbrev pub phase_of : Divider → ℕ
+phase_of (Standing byte) = 0
+phase_of (Running byte phase) = phase
 
 -- "In call i from 0 the divider is the byte plus (phase + i)/64 rounded down, modulo 256, at either speed"; one that stands is its byte in every call
 unfoldable pub divider_at : Divider → ℕ → ℕ
-divider_at d i = pick d.runs ((d.byte + (d.phase + i) / 64) % 256) d.byte
+divider_at (Standing byte) i = byte
+divider_at (Running byte phase) i = (byte + (phase + i) / 64) % 256

@@ -2,11 +2,10 @@
 use Rattle.std.specs.Prelude.{ℕ, zero, suc, ◌+◌, ◌-◌, ◌≤◌, ◌≡◌, refl, List, [], ◌∷◌, length, get_or, take, drop, ltb, leb, eqb}
 use Rattle.std.proofs.Common.{arith, le-leb}
 use Rattle.ground.specs.Pick.{pick}
-use Rattle.log_records.specs.declared.judge.Record.{Record}
 use Rattle.log_records.specs.declared.judge.Clocks.{Clocks}
 use Rattle.log_records.specs.declared.cut.Cut.{Cut}
 use Rattle.log_records.specs.declared.cut.Cut.TheVariants.{End, Short, Body}
-use Rattle.log_records.specs.Judge.{word, clock_length, judge_of, no_clocks, clocks_of}
+use Rattle.log_records.specs.Judge.{Judged, word, clock_length, judge_of, no_clocks, clocks_of}
 
 -- "two length bytes, big-endian, and the body of that many bytes"; else the log ends here, or "a record cut short"
 unfoldable pub cut_at : List ℕ → ℕ → Cut
@@ -33,7 +32,7 @@ clocks_at version s at =
 pub data Parsed : Type 0 where
   done : Parsed
   short : ℕ → Parsed
-  item : ℕ → Record → Parsed → Parsed
+  item : ℕ → Judged → Parsed → Parsed
 
 -- what stands at a place, in front of what `rest` says of the next
 abbrev pub grow : ℕ → List ℕ → ℕ → (ℕ → Parsed) → Cut → Parsed
@@ -72,13 +71,13 @@ unfolding records_from parse
 records_step v s at = parse_same v (length s) (suc (length s)) s at (omega arith) (omega arith)
 
 -- the records without their places
-abbrev pub unrolled : Parsed → List Record
+abbrev pub unrolled : Parsed → List Judged
 unrolled done = []
 unrolled (short p) = []
 unrolled (item p r rest) = r ∷ unrolled rest
 
 -- the records of a log of a version, which begin after version and start byte
-abbrev pub listed_as : ℕ → List ℕ → List Record
+abbrev pub listed_as : ℕ → List ℕ → List Judged
 listed_as version s = unrolled (records_from version s 2)
 
 -- "Byte 0 is version"
@@ -89,5 +88,5 @@ version_of s = get_or s 0 0
 abbrev pub records_of : List ℕ → Parsed
 records_of s = records_from (version_of s) s 2
 
-abbrev pub listed : List ℕ → List Record
+abbrev pub listed : List ℕ → List Judged
 listed s = unrolled (records_of s)

@@ -4,10 +4,9 @@ ghost use Rattle.log_records.specs.Divider.{divider_at};
 
 // What a record says of it: a byte, which stands still, or runs on by 1 every 64 calls, `phase` of which are past.
 #[derive(Clone, Copy)]
-pub struct Divider {
-    pub byte: u8,
-    pub phase: u8,
-    pub runs: bool,
+pub enum Divider {
+    Standing { byte: u8 }, // in version 1
+    Running { byte: u8, phase: u8 }, // from version 2 on
 }
 
 // The divider in call i of a record.
@@ -15,9 +14,10 @@ pub fn divider_at(divider: Divider, i: u32) -> u8
     requires { i ≤ 65535 }
     ensures { result ≡ divider_at divider i }
 {
-    if divider.runs {
-        ((divider.byte as u32 + (divider.phase as u32 + i) / 64) % 256) as u8
-    } else {
-        divider.byte
+    match divider {
+        Divider::Standing { byte } => byte,
+        Divider::Running { byte, phase } => {
+            ((byte as u32 + (phase as u32 + i) / 64) % 256) as u8
+        }
     }
 }

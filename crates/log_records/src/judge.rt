@@ -1,12 +1,13 @@
 // The judge of a record's body: a part of the log, which starts in its middle.
 ghost use Rattle.std.specs.Prelude.{◌≡◌, ◌+◌, ◌<◌, ◌≤◌, length};
 ghost use Rattle.log_records.specs.Judge.{word, write_of, read_of, clock_length, divider_in, fair_of, clock_of, pcm_of, judge_of, no_clocks, clocks_of};
+ghost use Rattle.log_records.specs.Divider.{phase_of};
 ghost use Rattle.log_records.specs.Records.{clocks_at};
 
 use crate::divider::Divider;
 use ground::num::is_sound;
 
-// What a record's body says.
+// What a record's body says, if it is right.
 #[derive(Clone, Copy)]
 pub enum Record {
     Write {
@@ -22,8 +23,11 @@ pub enum Record {
         count: u16,
     },
     Pcm,
-    Wrong,
 }
+
+// Refusal 5: a body that is none of these.
+#[derive(Clone, Copy)]
+pub struct WrongRecord;
 
 fn wide(x: u8) -> u16
     ensures { (result ≡ x) × (result < 256) }
@@ -40,32 +44,36 @@ pub fn word_at(bytes: &[u8], i: usize) -> u16
 }
 
 // Kind 01: address and data.
-fn judge_write(body: &[u8]) -> Record
+fn judge_write(body: &[u8]) -> Result<Record, WrongRecord>
     ensures { result ≡ write_of body.now }
 {
-    if body.len() == 4 {
-        let addr = word_at(body, 1);
-        if is_sound(addr) {
-            return Record::Write {
-                addr,
-                value: body[3],
-            };
-        }
+    if body.len() != 4 {
+        return Err(WrongRecord);
     }
-    Record::Wrong
+    let addr = word_at(body, 1);
+    if is_sound(addr) {
+        Ok(Record::Write {
+            addr,
+            value: body[3],
+        })
+    } else {
+        Err(WrongRecord)
+    }
 }
 
 // Kind 02: address.
-fn judge_read(body: &[u8]) -> Record
+fn judge_read(body: &[u8]) -> Result<Record, WrongRecord>
     ensures { result ≡ read_of body.now }
 {
-    if body.len() == 3 {
-        let addr = word_at(body, 1);
-        if is_sound(addr) {
-            return Record::Read { addr };
-        }
+    if body.len() != 3 {
+        return Err(WrongRecord);
     }
-    Record::Wrong
+    let addr = word_at(body, 1);
+    if is_sound(addr) {
+        Ok(Record::Read { addr })
+    } else {
+        Err(WrongRecord)
+    }
 }
 
 // The bytes of a clock record's body in a log of a version.
@@ -82,45 +90,46 @@ fn divider_in(version: u8, body: &[u8]) -> Divider
     ensures { result ≡ divider_in version body.now }
 {
     if version == 1 {
-        Divider {
-            byte: body[2],
-            phase: 0,
-            runs: false,
-        }
+        Divider::Standing { byte: body[2] }
     } else {
-        Divider {
+        Divider::Running {
             byte: body[2],
             phase: body[3],
-            runs: true,
         }
     }
 }
 
 // Whether speed, phase and count are in their ranges.
-fn fair(speed: u8, phase: u8, count: u16) -> bool
-    ensures { result ≡ fair_of speed phase count }
+fn fair(speed: u8, divider: Divider, count: u16) -> bool
+    ensures { result ≡ fair_of speed (phase_of divider) count }
 {
+    let phase = match divider {
+        Divider::Standing { .. } => 0,
+        Divider::Running { phase, .. } => phase,
+    };
     (speed <= 1) & ((phase <= 63) & ((1 <= count) & (count <= 16384)))
 }
 
 // Kind 03: speed, divider and count.
-fn judge_clock(version: u8, body: &[u8]) -> Record
+fn judge_clock(version: u8, body: &[u8]) -> Result<Record, WrongRecord>
     ensures { result ≡ clock_of version body.now }
 {
     let length = clock_length(version);
-    if body.len() == length {
-        let speed = body[1];
-        let divider = divider_in(version, body);
-        let count = word_at(body, length - 2);
-        if fair(speed, divider.phase, count) {
-            return Record::Clock {
-                double: speed == 1,
-                divider,
-                count,
-            };
-        }
+    if body.len() != length {
+        return Err(WrongRecord);
     }
-    Record::Wrong
+    let speed = body[1];
+    let divider = divider_in(version, body);
+    let count = word_at(body, length - 2);
+    if fair(speed, divider, count) {
+        Ok(Record::Clock {
+            double: speed == 1,
+            divider,
+            count,
+        })
+    } else {
+        Err(WrongRecord)
+    }
 }
 
 // A clock record and the place after it, or none.
@@ -136,15 +145,10 @@ pub struct Clocks {
 fn no_clocks() -> Clocks
     ensures { result ≡ no_clocks }
 {
-    let divider = Divider {
-        byte: 0,
-        phase: 0,
-        runs: false,
-    };
     Clocks {
         right: false,
         double: false,
-        divider,
+        divider: Divider::Standing { byte: 0 },
         count: 0,
         end: 0,
     }
@@ -159,7 +163,7 @@ fn clocks_in(version: u8, body: &[u8], end: usize) -> Clocks
     let speed = body[1];
     let divider = divider_in(version, body);
     let count = word_at(body, length - 2);
-    if (body[0] == 3) & fair(speed, divider.phase, count) {
+    if (body[0] == 3) & fair(speed, divider, count) {
         return Clocks {
             right: true,
             double: speed == 1,
@@ -203,35 +207,28 @@ pub fn clocks_at(version: u8, log: &[u8], at: usize) -> Clocks
 }
 
 // Kind 04: both PCM reads.
-fn judge_pcm(body: &[u8]) -> Record
+fn judge_pcm(body: &[u8]) -> Result<Record, WrongRecord>
     ensures { result ≡ pcm_of body.now }
 {
     if body.len() == 1 {
-        Record::Pcm
+        Ok(Record::Pcm)
     } else {
-        Record::Wrong
+        Err(WrongRecord)
     }
 }
 
 // What a body says in a log of a version, by its kind.
-pub fn judge(version: u8, body: &[u8]) -> Record
+pub fn judge(version: u8, body: &[u8]) -> Result<Record, WrongRecord>
     ensures { result ≡ judge_of version body.now }
 {
     if body.len() == 0 {
-        return Record::Wrong;
+        return Err(WrongRecord);
     }
-    let kind = body[0];
-    if kind == 1 {
-        return judge_write(body);
+    match body[0] {
+        1 => judge_write(body),
+        2 => judge_read(body),
+        3 => judge_clock(version, body),
+        4 => judge_pcm(body),
+        _ => Err(WrongRecord),
     }
-    if kind == 2 {
-        return judge_read(body);
-    }
-    if kind == 3 {
-        return judge_clock(version, body);
-    }
-    if kind == 4 {
-        return judge_pcm(body);
-    }
-    Record::Wrong
 }

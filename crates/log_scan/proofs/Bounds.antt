@@ -8,21 +8,21 @@ use native.Mathlib.Omega.{arith}
 use borrow.Author.Tests.{leb-true, leb-false, ltb-false}
 use lib.ListN.{length, get_or}
 use lib.Dec.{leb, ltb}
+use Rattle.std.specs.Prelude.{Option, None, Some, Ok, Err}
+use Rattle.std.specs.Option.{option_or}
 use Rattle.ground.specs.Pick.{pick}
 use Rattle.ground.proofs.Cases.{pick_holds, both_ways, and_right}
 use Rattle.log_records.specs.declared.divider.Divider.{Divider}
-use Rattle.log_records.specs.declared.judge.Record.{Record}
-use Rattle.log_records.specs.declared.judge.Record.TheVariants.{Write, Read, Clock, Pcm, Wrong}
+use Rattle.log_records.specs.Divider.{phase_of}
+use Rattle.log_records.specs.declared.judge.Record.TheVariants.{Clock}
 use Rattle.log_records.specs.declared.cut.Cut.{Cut}
 use Rattle.log_records.specs.declared.cut.Cut.TheVariants.{End, Short, Body}
-use Rattle.log_scan.specs.declared.scan.Mark.{Mark}
-use Rattle.log_scan.specs.declared.scan.Mark.TheVariants.{Clear, At}
 use Rattle.log_scan.specs.declared.answer.LogAnswer.{LogAnswer}
 use Rattle.log_scan.specs.declared.answer.LogAnswer.TheVariants.{Done, TooLong, BadStart, WrongRecord, TooShort}
-use Rattle.log_records.specs.Judge.{word, write_of, read_of, divider_in, count_in, fair_of, clock_of, pcm_of, judge_of}
+use Rattle.log_records.specs.Judge.{Judged, wrong, word, write_of, read_of, divider_in, count_in, fair_of, clock_of, pcm_of, judge_of}
 use Rattle.log_records.specs.Records.{Parsed, cut_at, body_at, grow, parse, records_from, unrolled, listed_as, version_of, records_of}
 use Rattle.log_scan.specs.Sums.{asks, halves_of, read_bytes_of, sum_of}
-use Rattle.log_scan.specs.Scan.{or_mark, wrong_mark, wrong_in, summed}
+use Rattle.log_scan.specs.Scan.{wrong_mark, wrong_in, summed}
 use Rattle.log_scan.specs.Answers.{refusal_of, returned_of, bytes_by, or_wrong, scanned_as, scanned_from, within_room, Small}
 use Rattle.clocks.specs.Calls.{K}
 use Rattle.clocks.specs.Metered.{Held}
@@ -30,20 +30,20 @@ use Rattle.clocks.specs.declared.meter.Meter.{Meter}
 use Rattle.clocks.proofs.Totals.{frames_le}
 use Rattle.log_records.proofs.Framing.{body_fits}
 
-pub record Low (r : Record) : Type 0 where
+pub record Low (r : Judged) : Type 0 where
   pub calls : asks r ≤ 16384
   pub halves : halves_of r ≤ 32768
   pub read_bytes : read_bytes_of r ≤ 3
 
-nothing_low : (r : Record) → asks r ≡ 0 → halves_of r ≡ 0 → read_bytes_of r ≤ 3 → Low r
+nothing_low : (r : Judged) → asks r ≡ 0 → halves_of r ≡ 0 → read_bytes_of r ≤ 3 → Low r
 nothing_low r a h l = record { calls = omega arith; halves = omega arith; read_bytes = l }
 
-clock_low : (d : Bool) (v : Divider) (k : ℕ) → k ≤ 16384 → Low (Clock d v k)
+clock_low : (d : Bool) (v : Divider) (k : ℕ) → k ≤ 16384 → Low (Ok (Clock d v k))
 clock_low true v k h = record { calls = h; halves = omega arith; read_bytes = omega arith }
 clock_low false v k h = record { calls = h; halves = omega arith; read_bytes = omega arith }
 
-wrong_low : Low Wrong
-wrong_low = nothing_low Wrong refl refl (omega arith)
+wrong_low : Low wrong
+wrong_low = nothing_low wrong refl refl (omega arith)
 
 -- a count that the judge takes
 count_le : (speed phase count : ℕ) → fair_of speed phase count ≡ true → count ≤ 16384
@@ -60,12 +60,12 @@ judged_low v s =
     (both_ways Low _ (both_ways Low _ (both_ways Low _ (nothing_low _ refl refl (omega arith)) wrong_low) wrong_low)
     (both_ways Low _
     (both_ways Low _
-    (pick_holds Low _ _ _ (λ e. clock_low _ _ _ (count_le (get_or s 1 0) (divider_in v s).phase (count_in v s) e)) (λ _. wrong_low))
+    (pick_holds Low _ _ _ (λ e. clock_low _ _ _ (count_le (get_or s 1 0) (phase_of (divider_in v s)) (count_in v s) e)) (λ _. wrong_low))
     wrong_low)
     (both_ways Low _ (both_ways Low _ (nothing_low _ refl refl (omega arith)) wrong_low) wrong_low))))
 
 -- a sum over the records from a place on
-module _ (v : ℕ) (f : Record → ℕ) (m : ℕ) (low : (s : List ℕ) → f (judge_of v s) ≤ m) where
+module _ (v : ℕ) (f : Judged → ℕ) (m : ℕ) (low : (s : List ℕ) → f (judge_of v s) ≤ m) where
   more : (x y a b : ℕ) → x ≤ m → y ≤ m * b → b + 1 ≤ a → x + y ≤ m * a
   more x y a b p q h =
       let k : m * (b + 1) ≤ m * a = mul-le-mul_left m h in
@@ -95,7 +95,7 @@ module _ (v : ℕ) (f : Record → ℕ) (m : ℕ) (low : (s : List ℕ) → f (j
       less : (n : ℕ) → n ≤ 65536 → n - 2 ≤ 65536
       less n k = omega arith
 
-each_one : (l : List Record) → sum_of (λ r. 1) l ≡ length l
+each_one : (l : List Judged) → sum_of (λ r. 1) l ≡ length l
 unfolding sum_of
 each_one [] = refl
 each_one (r ∷ l) = omega (arith, each_one l)
@@ -134,20 +134,17 @@ short_inside s at e = go (leb (length s) at) refl e
     go false x h = le_of_lt (leb-false (length s) at x)
 
 -- a mark lies within the log
-abbrev Inside : ℕ → Mark → Type 0
-Inside top Clear = 0 ≤ top
-Inside top (At p) = p ≤ top
+abbrev Inside : ℕ → Option ℕ → Type 0
+Inside top None = 0 ≤ top
+Inside top (Some p) = p ≤ top
 
-or_inside : (top : ℕ) (a b : Mark) → Inside top a → Inside top b → Inside top (or_mark a b)
-or_inside top Clear b p q = q
-or_inside top (At p) b h q = h
+or_inside : (top : ℕ) (a b : Option ℕ) → Inside top a → Inside top b → Inside top (option_or a b)
+or_inside top None b p q = q
+or_inside top (Some p) b h q = h
 
-mark_inside : (top place : ℕ) (r : Record) → place ≤ top → Inside top (wrong_mark place r)
-mark_inside top place (Write addr value) h = omega arith
-mark_inside top place (Read addr) h = omega arith
-mark_inside top place (Clock d v k) h = omega arith
-mark_inside top place Pcm h = omega arith
-mark_inside top place Wrong h = h
+mark_inside : (top place : ℕ) (r : Judged) → place ≤ top → Inside top (wrong_mark place r)
+mark_inside top place (Ok r) h = omega arith
+mark_inside top place (Err fault) h = h
 
 first_inside : (v : ℕ) (s : List ℕ) (at : ℕ) (rest : ℕ → Parsed) (k : Cut) → cut_at s at ≡ k
     → ((n : ℕ) → Inside (length s) (wrong_in (rest (at + 2 + n)))) → Inside (length s) (wrong_in (grow v s at rest k))
@@ -176,9 +173,9 @@ room_packs room BadStart h = h
 room_packs room (WrongRecord p) h = h
 room_packs room (TooShort n) h = h
 
-wrong_packs : (top : ℕ) (m : Mark) (a : LogAnswer) → top ≤ 65536 → Inside top m → Packs a → Packs (or_wrong m a)
-wrong_packs top Clear a t i h = h
-wrong_packs top (At p) a t i h = omega arith
+wrong_packs : (top : ℕ) (m : Option ℕ) (a : LogAnswer) → top ≤ 65536 → Inside top m → Packs a → Packs (or_wrong m a)
+wrong_packs top None a t i h = h
+wrong_packs top (Some p) a t i h = omega arith
 
 scanned_packs : (m : Meter) → Held K m → (s : List ℕ) → Packs (scanned_from m s)
 unfolding scanned_as records_from

@@ -5,27 +5,29 @@ use mathlib.Core.List.{List, [], ◌∷◌, ◌++◌}
 use native.Mathlib.Omega.{arith}
 use native.Mathlib.Nat.{add_assoc, add-zero, zero-add}
 use lib.ListN.{length, length-append}
-use Rattle.log_records.specs.declared.judge.Record.{Record}
+use Rattle.std.specs.Prelude.{Option, None, Some}
+use Rattle.std.specs.Option.{option_or}
+use Rattle.log_records.specs.Judge.{Judged}
 use Rattle.log_records.specs.declared.cut.Cut.TheVariants.{End, Short}
-use Rattle.log_scan.specs.declared.scan.Mark.{Mark}
-use Rattle.log_scan.specs.declared.scan.Mark.TheVariants.{Clear, At}
 use Rattle.log_scan.specs.declared.scan.Found.{Found}
+use Rattle.log_scan.specs.declared.scan.Sums.{Sums}
 use Rattle.log_records.specs.Records.{Parsed, item, cut_at, records_from, unrolled}
 use Rattle.log_scan.specs.Sums.{asks, halves_of, read_bytes_of, sum_of}
-use Rattle.log_scan.specs.Scan.{Fits, or_mark, wrong_in, summed, added, both, good_both, nothing, found_in, found_all}
+use Rattle.log_scan.specs.Scan.{Fits, wrong_in, summed, added, both, nothing, found_in, found_all}
 use Rattle.log_records.proofs.Framing.{at_end, at_short}
 use Rattle.log_scan.proofs.Bounds.{calls_low, halves_low, read_bytes_low, count_low}
 
-or_assoc : (a b c : Mark) → or_mark (or_mark a b) c ≡ or_mark a (or_mark b c)
-or_assoc Clear b c = refl
-or_assoc (At p) b c = refl
+or_assoc : (a b c : Option ℕ) → option_or (option_or a b) c ≡ option_or a (option_or b c)
+or_assoc None b c = refl
+or_assoc (Some p) b c = refl
 
-or_none : (a : Mark) → or_mark a Clear ≡ a
-or_none Clear = refl
-or_none (At p) = refl
+or_none : (a : Option ℕ) → option_or a None ≡ a
+or_none None = refl
+or_none (Some p) = refl
 
-pub good-both : (a b : Found) → b.wrong ≡ Clear → good_both a b ≡ both a b
-good-both a b e = ap (λ (m : Mark). record { wrong = m; sums = added a.sums b.sums }) (sym (ap (or_mark a.wrong) e ∙ or_none a.wrong))
+-- where nothing is wrong in the second, the first one's place stays as it is
+good_both : (a b : Found) → b.wrong ≡ None → (◌≡◌ {A = Found} (record { wrong = a.wrong; sums = added a.sums b.sums }) (both a b))
+good_both a b e = ap (λ (m : Option ℕ). record { wrong = m; sums = added a.sums b.sums }) (sym (ap (option_or a.wrong) e ∙ or_none a.wrong))
 
 both_assoc : (a b c : Found) → both (both a b) c ≡ both a (both b c)
 both_assoc a b c =
@@ -37,26 +39,26 @@ both_assoc a b c =
       add_assoc a.sums.read_bytes b.sums.read_bytes c.sums.read_bytes,
     )
 
-both_none : (a : Found) → both a (nothing Clear) ≡ a
+both_none : (a : Found) → both a nothing ≡ a
 both_none a = rw (or_none a.wrong, add-zero a.sums.records, add-zero a.sums.calls, add-zero a.sums.halves, add-zero a.sums.read_bytes)
 
-none_both : (a : Found) → both (nothing Clear) a ≡ a
+none_both : (a : Found) → both nothing a ≡ a
 none_both a = rw (zero-add a.sums.records, zero-add a.sums.calls, zero-add a.sums.halves, zero-add a.sums.read_bytes)
 
 one_more : (n : ℕ) → 1 + n ≡ suc n
 one_more n = omega arith
 
 -- one row of records after another
-sum_append : (f : Record → ℕ) (xs ys : List Record) → sum_of f (xs ++ ys) ≡ sum_of f xs + sum_of f ys
+sum_append : (f : Judged → ℕ) (xs ys : List Judged) → sum_of f (xs ++ ys) ≡ sum_of f xs + sum_of f ys
 unfolding sum_of
 sum_append f [] ys = sym (zero-add (sum_of f ys))
 sum_append f (r ∷ xs) ys = ap (λ (n : ℕ). f r + n) (sum_append f xs ys) ∙ sym (add_assoc (f r) (sum_of f xs) (sum_of f ys))
 
-pub summed_append : (xs ys : List Record) → summed (xs ++ ys) ≡ added (summed xs) (summed ys)
+pub summed_append : (xs ys : List Judged) → summed (xs ++ ys) ≡ added (summed xs) (summed ys)
 summed_append xs ys = rw (length-append xs ys, sum_append asks xs ys, sum_append halves_of xs ys, sum_append read_bytes_of xs ys)
 
 -- THE LAW
-found_item : (p : ℕ) (r : Record) (rest : Parsed) → found_all (item p r rest) ≡ both (found_in p r) (found_all rest)
+found_item : (p : ℕ) (r : Judged) (rest : Parsed) → found_all (item p r rest) ≡ both (found_in p r) (found_all rest)
 unfolding wrong_in sum_of
 found_item p r rest = rw (one_more (length (unrolled rest)))
 
@@ -65,7 +67,7 @@ pub record Going (v : ℕ) (s : List ℕ) (at : ℕ) (t : Found) : Type 0 where
   pub state : both t (found_all (records_from v s at)) ≡ found_all (records_from v s 2)
   pub inside : at ≤ length s + 2
 
-pub begun : (v : ℕ) (s : List ℕ) → Going v s 2 (nothing Clear)
+pub begun : (v : ℕ) (s : List ℕ) → Going v s 2 nothing
 begun v s = record { state = none_both (found_all (records_from v s 2)); inside = omega arith }
 
 module _ {v : ℕ} {s : List ℕ} {at : ℕ} {t : Found} (g : Going v s at t) where
@@ -77,31 +79,15 @@ module _ {v : ℕ} {s : List ℕ} {at : ℕ} {t : Found} (g : Going v s at t) wh
   part : (a c d top : ℕ) → a + c ≡ d → d ≤ top → top ≤ 4294967296 → a < 18446744073709551616
   part a c d top p q r = omega arith
 
-  -- joining nothing adds nothing
-  pub fits_none : (w : Mark) → length s ≤ 65536 → Fits t (nothing w)
-  fits_none w h =
-      let rest = found_all (records_from v s at) in
-      record {
-        records =
-            rw (add-zero t.sums.records)
-            (part _ rest.sums.records _ _ (ap (λ (x : Found). x.sums.records) g.state) (count_low v s h) (omega arith));
-        calls =
-            rw (add-zero t.sums.calls)
-            (part _ rest.sums.calls _ _ (ap (λ (x : Found). x.sums.calls) g.state) (calls_low v s h) (omega arith));
-        halves =
-            rw (add-zero t.sums.halves)
-            (part _ rest.sums.halves _ _ (ap (λ (x : Found). x.sums.halves) g.state) (halves_low v s h) (omega arith));
-        read_bytes =
-            rw (add-zero t.sums.read_bytes)
-            (part _ rest.sums.read_bytes _ _ (ap (λ (x : Found). x.sums.read_bytes) g.state) (read_bytes_low v s h) (omega arith));
-      }
-
-  pub cut_short : cut_at s at ≡ Short → both t (nothing (At at)) ≡ found_all (records_from v s 2)
+  -- a record cut short adds nothing to the sums
+  pub cut_short : cut_at s at ≡ Short → ◌≡◌ {A = Found} (record { wrong = option_or t.wrong (Some at); sums = t.sums }) (found_all (records_from v s 2))
   unfolding wrong_in sum_of
-  cut_short e = rw (at_short v s at e) at g.state
+  cut_short e =
+      let sums = ap (λ (x : Found). x.sums) (both_none t) in
+      ap (λ (x : Sums). record { wrong = option_or t.wrong (Some at); sums = x }) (sym sums) ∙ rw (at_short v s at e) at g.state
 
   -- the next record, and where the one after it begins
-  module _ (r : Record) (next : ℕ) (is : records_from v s at ≡ item at r (records_from v s next)) where
+  module _ (r : Judged) (next : ℕ) (is : records_from v s at ≡ item at r (records_from v s next)) where
     abbrev f : Found
     f = found_in at r
 
@@ -114,7 +100,11 @@ module _ {v : ℕ} {s : List ℕ} {at : ℕ} {t : Found} (g : Going v s at t) wh
     pub turn : next ≤ length s → Going v s next (both t f)
     turn h = record { state = state; inside = omega arith }
 
-    pub fits : length s ≤ 65536 → Fits t f
+    -- where it is right
+    pub turn_good : f.wrong ≡ None → next ≤ length s → Going v s next (record { wrong = t.wrong; sums = added t.sums f.sums })
+    turn_good e h = rw (good_both t f e) (turn h)
+
+    pub fits : length s ≤ 65536 → Fits t.sums f.sums
     fits h =
         record {
           records = part _ rest.sums.records _ _ (ap (λ (x : Found). x.sums.records) state) (count_low v s h) (omega arith);

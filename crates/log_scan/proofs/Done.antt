@@ -8,12 +8,11 @@ use native.Mathlib.Omega.{arith}
 use borrow.Author.Tests.{ltb-false}
 use lib.ListN.{length, drop}
 use lib.Dec.{ltb}
+use Rattle.std.specs.Prelude.{Option, None, Some}
 use Rattle.ground.specs.Pick.{pick}
 use Rattle.ground.proofs.Cases.{pick_holds}
 use Rattle.log_scan.specs.declared.answer.LogAnswer.{LogAnswer}
 use Rattle.log_scan.specs.declared.answer.LogAnswer.TheVariants.{Done, TooLong, BadStart, WrongRecord, TooShort}
-use Rattle.log_scan.specs.declared.scan.Mark.{Mark}
-use Rattle.log_scan.specs.declared.scan.Mark.TheVariants.{Clear, At}
 use Rattle.log_records.specs.Records.{records_of, listed}
 use Rattle.log_scan.specs.Scan.{wrong_in, summed}
 use Rattle.log_scan.specs.Answers.{is_done, bad_start, done_as, or_wrong, scanned_as, within_room, out_after}
@@ -67,10 +66,10 @@ module _ (room : ℕ) where
     abbrev Fits : LogAnswer → Type 0
     Fits a = is_done (within_room room a) ≡ true → n ≤ room
 
-    marked : (m : Mark) → Fits (or_wrong m (done_as n f (summed (listed s))))
+    marked : (m : Option ℕ) → Fits (or_wrong m (done_as n f (summed (listed s))))
     unfolding within_room
-    marked Clear d = fits n _ _ _ d
-    marked (At p) d = never _ _ d
+    marked None d = fits n _ _ _ d
+    marked (Some p) d = never _ _ d
 
     pub done_fits : Fits (scanned_as n f s)
     unfolding scanned_as within_room
@@ -88,12 +87,12 @@ module _ (room : ℕ) where
 
     -- and nothing was wrong in it
     abbrev Clears : LogAnswer → Type 0
-    Clears a = is_done (within_room room a) ≡ true → wrong_in (records_of s) ≡ Clear
+    Clears a = is_done (within_room room a) ≡ true → wrong_in (records_of s) ≡ None
 
-    clear : (m : Mark) → wrong_in (records_of s) ≡ m → Clears (or_wrong m (done_as n f (summed (listed s))))
+    clear : (m : Option ℕ) → wrong_in (records_of s) ≡ m → Clears (or_wrong m (done_as n f (summed (listed s))))
     unfolding within_room
-    clear Clear e d = e
-    clear (At p) e d = cc
+    clear None e d = e
+    clear (Some p) e d = cc
 
     pub done_clear : Clears (scanned_as n f s)
     unfolding scanned_as within_room

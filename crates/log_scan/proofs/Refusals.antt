@@ -4,49 +4,48 @@ use mathlib.Core.Path.{◌≡◌, refl, ◌∙◌}
 use mathlib.Core.Bool.{Bool, true, false, ◌&&◌}
 use mathlib.Core.List.{List}
 use lib.Dec.{ltb}
+use Rattle.std.specs.Prelude.{Option, None, Some, is_some, unwrap_or}
 use Rattle.ground.specs.Pick.{pick}
 use Rattle.clocks.specs.declared.meter.Meter.{Meter}
 use Rattle.log_records.specs.Records.{records_of, listed}
 use Rattle.log_scan.specs.Scan.{wrong_in, summed}
-use Rattle.log_scan.specs.Answers.{refusal_of, returned_of, is_done, too_long, bad_start, refused_for, returned_for, refused_within, is_place, place_in}
+use Rattle.log_scan.specs.Answers.{refusal_of, returned_of, is_done, too_long, bad_start, refused_for, returned_for, refused_within}
 use Rattle.log_scan.specs.Answers.{bytes_by, done_as, or_wrong, scanned_as, scanned_from, within_room}
 use Rattle.log_scan.specs.declared.answer.LogAnswer.{LogAnswer}
 use Rattle.log_scan.specs.declared.answer.LogAnswer.TheVariants.{Done, TooLong, BadStart, WrongRecord, TooShort}
 use Rattle.log_scan.specs.declared.scan.Sums.{Sums}
-use Rattle.log_scan.specs.declared.scan.Mark.{Mark}
-use Rattle.log_scan.specs.declared.scan.Mark.TheVariants.{Clear, At}
 
 module _ (written frames : ℕ) (sums : Sums) where
   -- an answer by whether the log is too long, has a bad start, and where its first wrong record is
-  abbrev answer : Bool → Bool → Mark → LogAnswer
+  abbrev answer : Bool → Bool → Option ℕ → LogAnswer
   answer long bad m = pick long TooLong (pick bad BadStart (or_wrong m (done_as written frames sums)))
 
-  refusal : (long bad : Bool) (m : Mark) → refusal_of (answer long bad m) ≡ pick long 3 (pick bad 4 (pick (is_place m) 5 0))
+  refusal : (long bad : Bool) (m : Option ℕ) → refusal_of (answer long bad m) ≡ pick long 3 (pick bad 4 (pick (is_some m) 5 0))
   unfolding pick
   refusal true bad m = refl
   refusal false true m = refl
-  refusal false false Clear = refl
-  refusal false false (At p) = refl
+  refusal false false None = refl
+  refusal false false (Some p) = refl
 
-  number : (long bad : Bool) (m : Mark) → returned_of (answer long bad m) ≡ pick long 0 (pick bad 0 (pick (is_place m) (place_in m) written))
+  number : (long bad : Bool) (m : Option ℕ) → returned_of (answer long bad m) ≡ pick long 0 (pick bad 0 (pick (is_some m) (unwrap_or m 0) written))
   unfolding pick
   number true bad m = refl
   number false true m = refl
-  number false false Clear = refl
-  number false false (At p) = refl
+  number false false None = refl
+  number false false (Some p) = refl
 
   -- refusal 6 comes last
-  last : (room : ℕ) (long bad : Bool) (m : Mark)
-      → refusal_of (within_room room (answer long bad m)) ≡ pick long 3 (pick bad 4 (pick (is_place m) 5 (pick (ltb room written) 6 0)))
+  last : (room : ℕ) (long bad : Bool) (m : Option ℕ)
+      → refusal_of (within_room room (answer long bad m)) ≡ pick long 3 (pick bad 4 (pick (is_some m) 5 (pick (ltb room written) 6 0)))
   unfolding pick within_room
   last room true bad m = refl
   last room false true m = refl
-  last room false false Clear = short (ltb room written)
+  last room false false None = short (ltb room written)
     where
       short : (t : Bool) → refusal_of (pick t (TooShort written) (done_as written frames sums)) ≡ pick t 6 0
       short true = refl
       short false = refl
-  last room false false (At p) = refl
+  last room false false (Some p) = refl
 
 -- room or none, the number returned is the same: the bytes needed are those that would be written
 same_number : (room : ℕ) (a : LogAnswer) → returned_of (within_room room a) ≡ returned_of a

@@ -1,5 +1,6 @@
 -- What a log is answered, and document 01's numbers for it: "What each call may refuse", 3 to 6. Assumes nothing.
 use Rattle.std.specs.Prelude.{ℕ, ◌+◌, ◌*◌, ◌^◌, ◌<◌, Bool, true, false, not, ◌&&◌, ◌||◌, List, [], ◌∷◌, ◌++◌, length, get_or, drop, ltb, leb, eqb}
+use Rattle.std.specs.Prelude.{Option, None, Some, is_some, unwrap_or}
 use Rattle.std.proofs.lemmas.List.Edits.{sets}
 use Rattle.ground.specs.Pick.{pick}
 use Rattle.clocks.specs.Calls.{K}
@@ -7,8 +8,6 @@ use Rattle.clocks.specs.Metered.{frames_from}
 use Rattle.clocks.specs.declared.meter.Meter.{Meter}
 use Rattle.log_scan.specs.declared.answer.LogAnswer.{LogAnswer}
 use Rattle.log_scan.specs.declared.answer.LogAnswer.TheVariants.{Done, TooLong, BadStart, WrongRecord, TooShort}
-use Rattle.log_scan.specs.declared.scan.Mark.{Mark}
-use Rattle.log_scan.specs.declared.scan.Mark.TheVariants.{Clear, At}
 use Rattle.log_scan.specs.declared.scan.Sums.{Sums}
 use Rattle.log_items.specs.Items.{frame_length}
 use Rattle.log_records.specs.Records.{version_of, records_of, listed}
@@ -53,19 +52,11 @@ unfoldable pub bad_start : List ℕ → Bool
 bad_start s = pick (ltb (length s) 2) true ((not (eqb (version_of s) 1) && not (eqb (version_of s) 2)) || ltb 3 (get_or s 1 0))
 
 -- 5: "a wrong record": whether there is one, and "place of its first length byte"
-abbrev pub is_place : Mark → Bool
-is_place Clear = false
-is_place (At place) = true
-
-abbrev pub place_in : Mark → ℕ
-place_in Clear = 0
-place_in (At place) = place
-
 abbrev pub has_wrong : List ℕ → Bool
-has_wrong s = is_place (wrong_in (records_of s))
+has_wrong s = is_some (wrong_in (records_of s))
 
 abbrev pub wrong_place : List ℕ → ℕ
-wrong_place s = place_in (wrong_in (records_of s))
+wrong_place s = unwrap_or (wrong_in (records_of s)) 0
 
 -- "3 to 6 are tried in that order": 3 to 5, or what comes after them
 abbrev pub first_refused : List ℕ → ℕ → ℕ
@@ -101,9 +92,9 @@ abbrev pub done_by : Meter → Sums → LogAnswer
 done_by m sums = done_as (bytes_by m sums) (frames_by m sums) sums
 
 -- 5: "a wrong record", or what is said of good ones
-abbrev pub or_wrong : Mark → LogAnswer → LogAnswer
-or_wrong Clear a = a
-or_wrong (At place) a = WrongRecord place
+abbrev pub or_wrong : Option ℕ → LogAnswer → LogAnswer
+or_wrong None a = a
+or_wrong (Some place) a = WrongRecord place
 
 -- "3 to 6 are tried in that order": 3 to 5 of them, of a log that makes so many bytes and frames
 unfoldable pub scanned_as : ℕ → ℕ → List ℕ → LogAnswer

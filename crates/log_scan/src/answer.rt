@@ -8,7 +8,7 @@ ghost use Rattle.log_scan.specs.Scan.{summed};
 ghost use Rattle.log_scan.specs.Answers.{bad_start, is_done, refusal_of, returned_of, refused_for, returned_for, counts_after};
 ghost use Rattle.log_scan.specs.Answers.{Small, bytes_by, done_by, scanned_from, within_room};
 
-use crate::scan::{Found, Mark, Sums, scan_list};
+use crate::scan::{Sums, scan_list};
 use clocks::meter::{Meter, frames_from};
 use log_items::items::FRAME_BYTES;
 use log_records::cut::version_of;
@@ -75,10 +75,9 @@ pub fn scan_from(log: &[u8], meter: Meter) -> LogAnswer
         return LogAnswer::BadStart;
     }
     let found = scan_list(version_of(log), log);
-    let wrong = found.wrong;
-    match wrong {
-        Mark::Clear => counted(meter, found.sums),
-        Mark::At { place } => LogAnswer::WrongRecord {
+    match found.wrong {
+        None => counted(meter, found.sums),
+        Some(place) => LogAnswer::WrongRecord {
             place: place as u64,
         },
     }

@@ -1,25 +1,17 @@
 // The scan of a log's records: the first wrong one, and sums over all. Nothing is played and nothing written; what each record has is joined to
 // what those before it had.
-ghost use Rattle.std.specs.Prelude.{◌≡◌, ◌*◌, ◌≤◌, length};
+ghost use Rattle.std.specs.Prelude.{◌≡◌, ◌*◌, ◌≤◌, length, Ok};
 ghost use Rattle.clocks.specs.Calls.{half_clocks_of};
 ghost use Rattle.log_records.specs.Judge.{judge_of};
 ghost use Rattle.log_records.specs.Records.{records_from};
-ghost use Rattle.log_scan.specs.declared.scan.Mark.TheVariants.{Clear};
-ghost use Rattle.log_scan.specs.Scan.{Fits, or_mark, both, good_both, one_found, nothing, found_in, found_all};
+ghost use Rattle.log_scan.specs.Scan.{Fits, added, both, one_record, sums_in, found_in, found_all};
 
 use clocks::sample_counter::half_clocks;
 use log_records::cut::{Cut, cut_at};
-use log_records::judge::{Record, clocks_at, judge};
-
-// A place in the log, or none.
-#[derive(Clone, Copy)]
-pub enum Mark {
-    Clear,
-    At { place: usize },
-}
+use log_records::judge::{Record, WrongRecord, clocks_at, judge};
 
 // Over some records: how many they are, the clock calls that they ask for, the half-clocks of those, and the bytes that reads make.
-#[derive(Clone, Copy)]
+#[derive(Clone, Copy, Default)]
 pub struct Sums {
     pub records: u64,
     pub calls: u64,
@@ -27,98 +19,67 @@ pub struct Sums {
     pub read_bytes: u64,
 }
 
-// The place of the first wrong record, and the sums.
-#[derive(Clone, Copy)]
+// The place of the first wrong record, if one is wrong, and the sums.
+#[derive(Clone, Copy, Default)]
 pub struct Found {
-    pub wrong: Mark,
+    pub wrong: Option<usize>,
     pub sums: Sums,
 }
 
-// The first of two marks that is one.
-fn or_mark(a: Mark, b: Mark) -> Mark
-    ensures { result ≡ or_mark a b }
+// The sums over two rows of records, one after the other.
+fn add(a: Sums, b: Sums) -> Sums
+    requires { Fits a b }
+    ensures { result ≡ added a b }
 {
-    match a {
-        Mark::Clear => b,
-        Mark::At { place } => Mark::At { place },
+    Sums {
+        records: a.records + b.records,
+        calls: a.calls + b.calls,
+        halves: a.halves + b.halves,
+        read_bytes: a.read_bytes + b.read_bytes,
     }
 }
 
 // What two rows of records have, one after the other.
 fn join(a: Found, b: Found) -> Found
-    requires { Fits a b }
+    requires { Fits a.sums b.sums }
     ensures { result ≡ both a b }
 {
-    let wrong = a.wrong;
-    let next = b.wrong;
-    let sums = a.sums;
-    let more = b.sums;
     Found {
-        wrong: or_mark(wrong, next),
-        sums: Sums {
-            records: sums.records + more.records,
-            calls: sums.calls + more.calls,
-            halves: sums.halves + more.halves,
-            read_bytes: sums.read_bytes + more.read_bytes,
-        },
+        wrong: a.wrong.or(b.wrong),
+        sums: add(a.sums, b.sums),
     }
 }
 
-// The same where nothing is wrong in the second: the first one's mark stays as it is. (Made anew for each record, it took a tenth of a scan.)
-fn join_good(a: Found, b: Found) -> Found
-    requires { Fits a b }
-    ensures { result ≡ good_both a b }
+// The sums over one record.
+fn one_record(calls: u64, halves: u64, read_bytes: u64) -> Sums
+    ensures { result ≡ one_record calls halves read_bytes }
 {
-    let wrong = a.wrong;
-    let sums = a.sums;
-    let more = b.sums;
-    Found {
-        wrong,
-        sums: Sums {
-            records: sums.records + more.records,
-            calls: sums.calls + more.calls,
-            halves: sums.halves + more.halves,
-            read_bytes: sums.read_bytes + more.read_bytes,
-        },
+    Sums {
+        records: 1,
+        calls,
+        halves,
+        read_bytes,
     }
 }
 
-// What one record has.
-fn one_record(wrong: Mark, calls: u64, halves: u64, bytes: u64) -> Found
-    ensures { result ≡ one_found wrong calls halves bytes }
-{
-    Found {
-        wrong,
-        sums: Sums {
-            records: 1,
-            calls,
-            halves,
-            read_bytes: bytes,
-        },
-    }
-}
-
-// No records, with a mark where the row is cut short.
-fn none(wrong: Mark) -> Found
-    ensures { result ≡ nothing wrong }
-{
-    Found {
-        wrong,
-        sums: Sums {
-            records: 0,
-            calls: 0,
-            halves: 0,
-            read_bytes: 0,
-        },
-    }
-}
-
-// What a clock record has: so many calls, of one or two half-clocks each.
-fn one_clock(double: bool, count: u16) -> Found
-    ensures { result ≡ one_found Clear count (count * half_clocks_of double) 0 }
+// Those over a clock record: so many calls, of one or two half-clocks each.
+fn one_clock(double: bool, count: u16) -> Sums
+    ensures { result ≡ one_record count (count * half_clocks_of double) 0 }
 {
     let calls = count as u64;
-    one_record(Mark::Clear, calls, calls * (half_clocks(double) as u64), 0)
+    one_record(calls, calls * (half_clocks(double) as u64), 0)
+}
+
+// Those over a right record.
+fn sums_in(taken: Record) -> Sums
+    ensures { result ≡ sums_in (Ok taken) }
+{
+    match taken {
+        Record::Write { .. } => one_record(0, 0, 0),
+        Record::Read { .. } => one_record(0, 0, 2),
+        Record::Clock { double, count, .. } => one_clock(double, count),
+        Record::Pcm => one_record(0, 0, 3),
+    }
 }
 
 // What a record's body has in a log of a version, its first length byte at the place.
@@ -126,15 +87,14 @@ fn scan_record(version: u8, body: &[u8], place: usize) -> Found
     ensures { result ≡ found_in place (judge_of version body.now) }
 {
     match judge(version, body) {
-        Record::Write { addr: _, value: _ } => one_record(Mark::Clear, 0, 0, 0),
-        Record::Read { addr: _ } => one_record(Mark::Clear, 0, 0, 2),
-        Record::Clock {
-            double,
-            divider: _,
-            count,
-        } => one_clock(double, count),
-        Record::Pcm => one_record(Mark::Clear, 0, 0, 3),
-        Record::Wrong => one_record(Mark::At { place }, 0, 0, 0),
+        Ok(taken) => Found {
+            wrong: None,
+            sums: sums_in(taken),
+        },
+        Err(WrongRecord) => Found {
+            wrong: Some(place),
+            sums: one_record(0, 0, 0),
+        },
     }
 }
 
@@ -143,12 +103,12 @@ pub fn scan_list(version: u8, log: &[u8]) -> Found
     requires { length log.now ≤ 65536 }
     ensures { result ≡ found_all (records_from version log.now 2) }
 {
-    let mut found = none(Mark::Clear);
+    let mut found = Found::default();
     let mut at: usize = 2;
     loop {
         let clocks = clocks_at(version, log, at);
         if clocks.right {
-            found = join_good(found, one_clock(clocks.double, clocks.count));
+            found.sums = add(found.sums, one_clock(clocks.double, clocks.count));
             at = clocks.end;
         } else {
             match cut_at(log, at) {
@@ -156,8 +116,8 @@ pub fn scan_list(version: u8, log: &[u8]) -> Found
                     return found;
                 }
                 Cut::Short => {
-                    let end = none(Mark::At { place: at });
-                    return join(found, end);
+                    found.wrong = found.wrong.or(Some(at));
+                    return found;
                 }
                 Cut::Body { len } => {
                     let from = at + 2;

@@ -8,18 +8,17 @@ use native.Mathlib.Omega.{arith}
 use borrow.Author.Tests.{ltb-false}
 use lib.ListN.{length, drop, length-append}
 use lib.Seq.{sets, sets-eq}
+use Rattle.std.specs.Prelude.{Ok, Err}
 use Rattle.ground.specs.Pick.{pick}
 use Rattle.ground.proofs.Cases.{pick_holds}
-use Rattle.log_vgm.specs.declared.scan.Scanned.{Scanned}
-use Rattle.log_vgm.specs.declared.scan.Scanned.TheVariants.{Good, Stopped}
-use Rattle.log_vgm.specs.declared.import.Imported.{Imported}
-use Rattle.log_vgm.specs.declared.import.Imported.TheVariants.{Done, BadHeader, BadCommand, TooLong, TooShort}
+use Rattle.log_vgm.specs.declared.refusal.ImportRefusal.{ImportRefusal}
+use Rattle.log_vgm.specs.declared.refusal.ImportRefusal.TheVariants.{BadHeader, BadCommand, TooLong, TooShort}
 use Rattle.log_vgm.specs.declared.clockwork.Walk.{Walk}
 use Rattle.log_vgm.specs.Header.{start_of, bad_header}
 use Rattle.log_vgm.specs.Commands.{Track, ended, stopped, after, commands_from}
 use Rattle.log_vgm.specs.Clockwork.{clockwork_at, starting_at}
 use Rattle.log_vgm.specs.Log.{track_of, log_of, written, bytes_on, opening}
-use Rattle.log_vgm.specs.Imports.{or_stopped, fitted, imported_of, is_done, refusal_of, scanned_on, log_after}
+use Rattle.log_vgm.specs.Imports.{Imported, or_stopped, fitted, imported_of, is_done, refusal_of, scanned_on, log_after}
 use Rattle.log_vgm.proofs.Counted.{bytes_at}
 use Rattle.log_vgm.proofs.Scanning.{found_good, good_goes, found_stopped, fitted_capped}
 
@@ -39,17 +38,17 @@ log_fits s w e room h = subst (λ (l : List ℕ). length l ≤ room) (sym (log_f
 
 -- ---- the answer
 module _ (s : List ℕ) (room : ℕ) where
-  pub bad_header_is : bad_header s ≡ true → BadHeader ≡ imported_of s room
+  pub bad_header_is : bad_header s ≡ true → Err BadHeader ≡ imported_of s room
   unfolding imported_of pick
   bad_header_is e = rw e
 
   -- by what the scan found, after the eight bytes of the opening
-  module _ (right : bad_header s ≡ false) {scanned : Scanned} (is : scanned ≡ scanned_on 8 (clockwork_at 0) (track_of s)) where
+  module _ (right : bad_header s ≡ false) {scanned : Imported} (is : scanned ≡ scanned_on 8 (clockwork_at 0) (track_of s)) where
     good_is : imported_of s room ≡ or_stopped (track_of s) (fitted room (length (log_of s)))
     unfolding imported_of pick
     good_is = rw right
 
-    pub fitted_is : {bytes : ℕ} → scanned ≡ Good bytes → fitted room bytes ≡ imported_of s room
+    pub fitted_is : {bytes : ℕ} → scanned ≡ Ok bytes → fitted room bytes ≡ imported_of s room
     fitted_is {bytes} e =
         let found = sym is ∙ e in
         let all = 8 + length (bytes_on (clockwork_at 0) (track_of s)) in
@@ -59,7 +58,7 @@ module _ (s : List ℕ) (room : ℕ) where
         ∙ sym (good_goes 8 (clockwork_at 0) (track_of s) found (fitted room (length (log_of s))))
         ∙ sym good_is
 
-    pub stopped_is : {place : ℕ} → scanned ≡ Stopped place → BadCommand place ≡ imported_of s room
+    pub stopped_is : {r : ImportRefusal} → scanned ≡ Err r → Err r ≡ imported_of s room
     stopped_is e = sym (found_stopped 8 (clockwork_at 0) (track_of s) (sym is ∙ e) (fitted room (length (log_of s)))) ∙ sym good_is
 
   -- ---- what being done says
@@ -99,18 +98,8 @@ module _ (s : List ℕ) (room : ℕ) where
 
 -- ---- the lent bytes after it
 done_after : (a : Imported) (log out : List ℕ) → is_done a ≡ true → log_after a log out ≡ log ++ drop (length log) out
-done_after (Done n) log out d = refl
-done_after BadHeader log out d = cc
-done_after (BadCommand place) log out d = cc
-done_after TooLong log out d = cc
-done_after (TooShort n) log out d = cc
-
-pub refused_after : (a : Imported) (log out : List ℕ) → is_done a ≡ false → out ≡ log_after a log out
-refused_after (Done n) log out d = cc
-refused_after BadHeader log out d = refl
-refused_after (BadCommand place) log out d = refl
-refused_after TooLong log out d = refl
-refused_after (TooShort n) log out d = refl
+done_after (Ok n) log out d = refl
+done_after (Err refusal) log out d = cc
 
 -- a log put at the front
 pub put_after : (a : Imported) (log out : List ℕ) → is_done a ≡ true → length log ≤ length out → sets out 0 log ≡ log_after a log out
@@ -119,8 +108,8 @@ put_after a log out d h =
 
 -- ---- the refusal's number
 pub refusal_le : (a : Imported) → refusal_of a ≤ 11
-refusal_le (Done n) = omega arith
-refusal_le BadHeader = omega arith
-refusal_le (BadCommand place) = omega arith
-refusal_le TooLong = omega arith
-refusal_le (TooShort n) = omega arith
+refusal_le (Ok n) = omega arith
+refusal_le (Err BadHeader) = omega arith
+refusal_le (Err (BadCommand place)) = omega arith
+refusal_le (Err TooLong) = omega arith
+refusal_le (Err (TooShort n)) = omega arith

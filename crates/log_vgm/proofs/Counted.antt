@@ -5,7 +5,7 @@ use mathlib.Core.Path.{◌≡◌, refl, sym, ap, ap₂, ◌∙◌}
 use mathlib.Core.List.{List, [], ◌∷◌, ◌++◌}
 use native.Mathlib.Omega.{arith}
 use lib.ListN.{replicate, replicate-append-replicate}
-use Rattle.log_records.specs.declared.judge.Record.{Record}
+use Rattle.log_records.specs.Judge.{Judged}
 use Rattle.log_vgm.specs.declared.clockwork.Clockwork.{Clockwork}
 use Rattle.log_vgm.specs.declared.command.Command.{Command}
 use Rattle.log_vgm.specs.declared.command.Command.TheVariants.{Store, Wait}
@@ -27,12 +27,12 @@ unfolding wholes
 wholes_alike C zero = refl
 wholes_alike C (suc k) =
     let round : clock_record (C + 16384) 16384 ≡ clock_record C 16384 = clock_round C 1 16384 in
-    ap (λ (l : List Record). clock_record C 16384 ∷ l) (wholes_alike (C + 16384) k ∙ ap (replicate k) round)
+    ap (λ (l : List Judged). clock_record C 16384 ∷ l) (wholes_alike (C + 16384) k ∙ ap (replicate k) round)
 
 pub wholes_more : (C k : ℕ) → wholes C (k + 1) ≡ wholes C k ++ (clock_record C 16384 ∷ [])
 wholes_more C k =
     let r = clock_record C 16384 in
-    wholes_alike C (k + 1) ∙ sym (replicate-append-replicate k 1 r) ∙ ap (λ (l : List Record). l ++ (r ∷ [])) (sym (wholes_alike C k))
+    wholes_alike C (k + 1) ∙ sym (replicate-append-replicate k 1 r) ∙ ap (λ (l : List Judged). l ++ (r ∷ [])) (sym (wholes_alike C k))
 
 rest_round : (C k n : ℕ) → rest_of (C + k * 16384) n ≡ rest_of C n
 unfolding rest_of
@@ -40,7 +40,7 @@ rest_round C k n = rw (clock_round C k n)
 
 -- the records of a wait, all of them from the calls before the first
 pub wait_alike : (C n : ℕ) → wait_records C n ≡ wholes C (n / 16384) ++ rest_of C (n % 16384)
-wait_alike C n = ap (λ (l : List Record). wholes C (n / 16384) ++ l) (rest_round C (n / 16384) (n % 16384))
+wait_alike C n = ap (λ (l : List Judged). wholes C (n / 16384) ++ l) (rest_round C (n / 16384) (n % 16384))
 
 wait_round : (C k n : ℕ) → wait_records (C + k * 16384) n ≡ wait_records C n
 wait_round C k n =

@@ -7,11 +7,11 @@ use native.Mathlib.Omega.{arith}
 use lib.ListN.{length, length-append}
 use lib.Dec.{eqb}
 use Rattle.ground.specs.Pick.{pick}
-use Rattle.log_records.specs.declared.judge.Record.{Record}
+use Rattle.log_records.specs.Judge.{Judged}
 use Rattle.log_vgm.specs.Log.{clock_record, record_bytes, written, wholes, rest_of, wait_records, wait_bytes}
 
 -- one row of records after another
-pub written_append : (l m : List Record) → written (l ++ m) ≡ written l ++ written m
+pub written_append : (l m : List Judged) → written (l ++ m) ≡ written l ++ written m
 unfolding written
 written_append [] m = refl
 written_append (r ∷ l) m = ap (λ (x : List ℕ). record_bytes r ++ x) (written_append l m) ∙ sym (append_assoc (record_bytes r) (written l) (written m))

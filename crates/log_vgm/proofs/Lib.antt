@@ -1,6 +1,7 @@
 -- The laws of imported logs. Assumes nothing.
 pub mod Lengths  -- how many bytes records have
 pub mod Counted  -- what the code keeps of the samples is enough
+pub mod Reading  -- the command at a place, by the bytes from there on
 pub mod Walking  -- the commands from a place on
 pub mod Scanning  -- what the scan finds
 pub mod Putting  -- the bytes put so far

@@ -8,23 +8,23 @@ use native.Mathlib.Omega.{arith}
 use native.Mathlib.Nat.{add-zero, zero-add}
 use borrow.Author.Tests.{le-leb, le-ltb, eqb-true, eqb-false}
 use lib.ListN.{length}
+use Rattle.std.specs.Prelude.{Some, None, Ok, Err, is_some}
 use Rattle.ground.specs.Pick.{pick}
 use Rattle.ground.proofs.Cases.{pick_holds}
 use Rattle.clocks.specs.Calls.{K}
 use Rattle.clocks.specs.Metered.{frames_of}
-use Rattle.log_records.specs.Divider.{running, divider_at}
+use Rattle.log_records.specs.Judge.{Judged}
+use Rattle.log_records.specs.Divider.{divider_at}
+use Rattle.log_records.specs.declared.divider.Divider.TheVariants.{Running}
 use Rattle.log_records.specs.Records.{listed}
-use Rattle.log_records.specs.declared.judge.Record.{Record}
 use Rattle.log_scan.specs.declared.scan.Sums.{Sums}
 use Rattle.log_scan.specs.Sums.{asks, halves_of, sum_of}
-use Rattle.log_scan.specs.Answers.{bad_start, is_place, first_refused}
+use Rattle.log_scan.specs.Answers.{bad_start, first_refused}
 use Rattle.log_scan.proofs.Bounds.{calls_low}
 use Rattle.log_scan.proofs.Counting.{summed_append}
 use Rattle.log_vgm.specs.declared.command.Command.{Command}
 use Rattle.log_vgm.specs.declared.command.Command.TheVariants.{Store, Wait}
-use Rattle.log_vgm.specs.declared.command.Next.{Next}
-use Rattle.log_vgm.specs.declared.command.Next.TheVariants.{Taken, End, Bad}
-use Rattle.log_vgm.specs.Commands.{next_at, Track, ended, stopped, after, grow, walk, commands_from, samples_in}
+use Rattle.log_vgm.specs.Commands.{Next, next_at, Track, ended, stopped, after, grow, walk, commands_from, samples_in}
 use Rattle.log_vgm.specs.Header.{start_of}
 use Rattle.log_vgm.specs.Clockwork.{calls_at, sample_after}
 use Rattle.log_vgm.specs.Log.{Low, write_record, clock_record, wholes, rest_of, wait_records, records_at, records_on, track_of, imported_records, log_of}
@@ -41,9 +41,9 @@ Lows (stopped place) = 0 ≤ 0
 Lows (after command rest) = Low command × Lows rest
 
 grow_low : (s : List ℕ) (at : ℕ) (rest : ℕ → Track) (k : Next) → Fits s at k → ((n : ℕ) → Lows (rest n)) → Lows (grow at rest k)
-grow_low s at rest (Taken command more) h l = (h.1, l (at + 1 + more))
-grow_low s at rest End h l = omega arith
-grow_low s at rest Bad h l = omega arith
+grow_low s at rest (Ok (Some taken)) h l = (h.1, l (at + 1 + taken.more))
+grow_low s at rest (Ok None) h l = omega arith
+grow_low s at rest (Err e) h l = omega arith
 
 walk_low : (f : ℕ) (s : List ℕ) (at : ℕ) → Lows (walk f s at)
 unfolding walk
@@ -62,7 +62,7 @@ write_right register value h =
     rw (le-leb 0xFF10 (0xFF10 + register) lo, le-leb (0xFF10 + register) 0xFF3F hi)
 
 clock_right : (C n : ℕ) → 1 ≤ n → n ≤ 16384 → Right (clock_record C n)
-clock_right C n lo hi = (refl, (omega arith, (lo, hi)))
+clock_right C n lo hi = (omega arith, (lo, hi))
 
 wholes_right : (C k : ℕ) → Each (wholes C k)
 unfolding wholes
@@ -103,28 +103,28 @@ imported_taken s room d last =
     let short = (done_fits s room d).0 in
     let clear = (read_back (imported_records s) (all_right s)).1 in
     let two : 2 ≤ length (log_of s) = omega arith in
-    rw (le-ltb 65536 (length (log_of s)) short, le-ltb (length (log_of s)) 2 two, ap is_place clear)
+    rw (le-ltb 65536 (length (log_of s)) short, le-ltb (length (log_of s)) 2 two, ap is_some clear)
 
 -- ---- the divider
-clock_runs : (C i : ℕ) → divider_at (running (C / 64 % 256) (C % 64)) i ≡ (C + i) / 64 % 256
-unfolding divider_at pick
+clock_runs : (C i : ℕ) → divider_at (Running (C / 64 % 256) (C % 64)) i ≡ (C + i) / 64 % 256
+unfolding divider_at
 clock_runs C i = omega arith
 
-wholes_run : (C k : ℕ) (l : List Record) → RunsFrom (C + k * 16384) l → RunsFrom C (wholes C k ++ l)
+wholes_run : (C k : ℕ) (l : List Judged) → RunsFrom (C + k * 16384) l → RunsFrom C (wholes C k ++ l)
 unfolding wholes
 wholes_run C zero l h = let e : C + zero * 16384 ≡ C = omega arith in rw e at h
 wholes_run C (suc k) l h =
     let e : C + suc k * 16384 ≡ C + 16384 + k * 16384 = omega arith in
     (λ i. clock_runs C i, wholes_run (C + 16384) k l (rw e at h))
 
-rest_runs : (C n : ℕ) (l : List Record) → RunsFrom (C + n) l → RunsFrom C (rest_of C n ++ l)
+rest_runs : (C n : ℕ) (l : List Judged) → RunsFrom (C + n) l → RunsFrom C (rest_of C n ++ l)
 unfolding rest_of
 rest_runs C n l h =
-    pick_holds (λ (r : List Record). RunsFrom C (r ++ l)) _ _ _
+    pick_holds (λ (r : List Judged). RunsFrom C (r ++ l)) _ _ _
     (λ e. let none : C + n ≡ C = omega (arith, eqb-true n 0 e) in rw none at h)
     (λ _. (λ i. clock_runs C i, h))
 
-wait_runs : (C m : ℕ) (l : List Record) → RunsFrom (C + m) l → RunsFrom C (wait_records C m ++ l)
+wait_runs : (C m : ℕ) (l : List Judged) → RunsFrom (C + m) l → RunsFrom C (wait_records C m ++ l)
 wait_runs C m l h =
     let rest = rest_of (C + m / 16384 * 16384) (m % 16384) in
     let e : C + m ≡ C + m / 16384 * 16384 + m % 16384 = omega arith in
@@ -146,7 +146,7 @@ pub imported_runs : (s : List ℕ) → RunsFrom 0 (imported_records s)
 imported_runs s = on_runs 0 (track_of s)
 
 -- ---- calls and half-clocks
-ask_append : (l m : List Record) → sum_of asks (l ++ m) ≡ sum_of asks l + sum_of asks m
+ask_append : (l m : List Judged) → sum_of asks (l ++ m) ≡ sum_of asks l + sum_of asks m
 ask_append l m = ap (λ (x : Sums). x.calls) (summed_append l m)
 
 wholes_ask : (C k : ℕ) → sum_of asks (wholes C k) ≡ k * 16384
@@ -157,7 +157,7 @@ wholes_ask C (suc k) = omega (arith, wholes_ask (C + 16384) k)
 rest_asks : (C n : ℕ) → sum_of asks (rest_of C n) ≡ n
 unfolding sum_of rest_of
 rest_asks C n =
-    pick_holds (λ (r : List Record). sum_of asks r ≡ n) _ _ _ (λ e. omega (arith, eqb-true n 0 e)) (λ _. omega arith)
+    pick_holds (λ (r : List Judged). sum_of asks r ≡ n) _ _ _ (λ e. omega (arith, eqb-true n 0 e)) (λ _. omega arith)
 
 wait_asks : (C m : ℕ) → sum_of asks (wait_records C m) ≡ m
 wait_asks C m =
@@ -188,10 +188,10 @@ unfolding sum_of
 imported_calls s = let h = rw (zero-add (samples_in (track_of s))) at (on_asks 0 (track_of s)) in omega (arith, h)
 
 -- all of them at normal speed: two half-clocks each
-abbrev Twice : List Record → Type 0
+abbrev Twice : List Judged → Type 0
 Twice l = sum_of halves_of l ≡ sum_of asks l * 2
 
-twice_append : (l m : List Record) → Twice l → Twice m → Twice (l ++ m)
+twice_append : (l m : List Judged) → Twice l → Twice m → Twice (l ++ m)
 twice_append l m p q = omega (arith, p, q, ask_append l m, ap (λ (x : Sums). x.halves) (summed_append l m))
 
 wholes_twice : (C k : ℕ) → Twice (wholes C k)

@@ -1,5 +1,5 @@
 -- At every turn of the scan, bytes counted so far and commands to come say the same as all of them; the count is right up to its cap. Assumes nothing.
-use Prim.Native.Nat.{ℕ, ◌+◌, ◌≤◌, ◌<◌}
+use Prim.Native.Nat.{ℕ, ◌+◌, ◌≤◌, ◌<◌, min}
 use mathlib.Core.Path.{◌≡◌, refl, sym, ap, ◌∙◌}
 use mathlib.Core.Bool.{Bool, true, false}
 use mathlib.Core.List.{List}
@@ -8,17 +8,17 @@ use native.Mathlib.Nat.{add-zero, add_assoc}
 use borrow.Author.Tests.{ltb-true, ltb-false, le-ltb}
 use lib.ListN.{length, length-append}
 use lib.Dec.{ltb}
+use Rattle.std.specs.Prelude.{Ok, Err}
 use Rattle.ground.specs.Pick.{pick}
 use Rattle.log_vgm.specs.declared.clockwork.Clockwork.{Clockwork}
 use Rattle.log_vgm.specs.declared.clockwork.Walk.{Walk}
-use Rattle.log_vgm.specs.declared.command.Command.{Command}
-use Rattle.log_vgm.specs.declared.scan.Scanned.TheVariants.{Good, Stopped}
-use Rattle.log_vgm.specs.declared.import.Imported.{Imported}
-use Rattle.log_vgm.specs.declared.import.Imported.TheVariants.{BadCommand}
+use Rattle.log_vgm.specs.declared.command.Taken.{Taken}
+use Rattle.log_vgm.specs.declared.refusal.ImportRefusal.{ImportRefusal}
+use Rattle.log_vgm.specs.declared.refusal.ImportRefusal.TheVariants.{BadCommand}
 use Rattle.log_vgm.specs.Commands.{Track, ended, stopped, after, commands_from}
 use Rattle.log_vgm.specs.Clockwork.{moved_of, walked_of}
 use Rattle.log_vgm.specs.Log.{bytes_by, bytes_on}
-use Rattle.log_vgm.specs.Imports.{capped, scanned_on, or_stopped, fitted}
+use Rattle.log_vgm.specs.Imports.{Imported, capped, scanned_on, or_stopped, fitted}
 
 -- ---- the cap
 pub capped_low : (most n : ℕ) → n ≤ most → capped most n ≡ n
@@ -33,6 +33,14 @@ capped_high most n h = go (ltb most n) refl
     go true e = refl
     go false e = omega (arith, ltb-false most n e)
 
+pub capped_min : (most n : ℕ) → capped most n ≡ min n most
+unfolding capped pick
+capped_min most n = go (ltb most n) refl
+  where
+    go : (b : Bool) → ltb most n ≡ b → pick b most n ≡ min n most
+    go true e = let h : most < n = ltb-true most n e in omega arith
+    go false e = let h : n ≤ most = ltb-false most n e in omega arith
+
 capped_again : (most n x : ℕ) → capped most (capped most n + x) ≡ capped most (n + x)
 capped_again most n x = go (ltb most n) refl
   where
@@ -45,7 +53,7 @@ capped_again most n x = go (ltb most n) refl
     go false e = ap (λ (m : ℕ). capped most (m + x)) (capped_low most n (ltb-false most n e))
 
 scan_capped : (n : ℕ) (c : Clockwork) (t : Track) → scanned_on (capped 65537 n) c t ≡ scanned_on n c t
-scan_capped n c ended = ap (λ (b : ℕ). Good b) (rw (add-zero (capped 65537 n), add-zero n) at (capped_again 65537 n 0))
+scan_capped n c ended = ap (λ (b : ℕ). Ok b) (rw (add-zero (capped 65537 n), add-zero n) at (capped_again 65537 n 0))
 scan_capped n c (stopped place) = refl
 scan_capped n c (after command rest) =
     let x = length (bytes_by c command) in
@@ -60,32 +68,32 @@ pub record Scanning (s : List ℕ) (from : Walk) (opening : ℕ) (walk : Walk) (
   pub same : scanned_on bytes walk.clockwork (commands_from s walk.at) ≡ scanned_on opening from.clockwork (commands_from s from.at)
 
 module _ {s : List ℕ} {from : Walk} {opening : ℕ} {walk : Walk} {bytes : ℕ} (inv : Scanning s from opening walk bytes) where
-  pub turn : {command : Command} (more : ℕ) → commands_from s walk.at ≡ after command (commands_from s (walk.at + 1 + more))
-      → {next : Walk} → next ≡ walked_of walk command more
-      → {now : ℕ} → now ≡ capped 65537 (bytes + length (bytes_by walk.clockwork command)) → now ≤ 65537
+  pub turn : (taken : Taken) → commands_from s walk.at ≡ after taken.command (commands_from s (walk.at + 1 + taken.more))
+      → {next : Walk} → next ≡ walked_of walk taken
+      → {now : ℕ} → now ≡ min (bytes + length (bytes_by walk.clockwork taken.command)) 65537
       → Scanning s from opening next now
-  turn {command} more e {next} w {now} b few =
-      let on = moved_of walk.clockwork command in
-      let x = length (bytes_by walk.clockwork command) in
+  turn taken e {next} w {now} b =
+      let on = moved_of walk.clockwork taken.command in
+      let x = length (bytes_by walk.clockwork taken.command) in
       record {
-        few = few;
+        few = omega arith;
         same =
-            rw (w, b)
-            (scan_capped (bytes + x) on (commands_from s (walk.at + 1 + more))
+            rw (w, b ∙ sym (capped_min 65537 (bytes + x)))
+            (scan_capped (bytes + x) on (commands_from s (walk.at + 1 + taken.more))
             ∙ sym (ap (scanned_on bytes walk.clockwork) e)
             ∙ inv.same);
       }
 
-  pub scan_ended : commands_from s walk.at ≡ ended → Good bytes ≡ scanned_on opening from.clockwork (commands_from s from.at)
+  pub scan_ended : commands_from s walk.at ≡ ended → Ok bytes ≡ scanned_on opening from.clockwork (commands_from s from.at)
   scan_ended e =
-      ap (λ (b : ℕ). Good b) (sym (capped_low 65537 bytes inv.few)) ∙ sym (ap (scanned_on bytes walk.clockwork) e) ∙ inv.same
+      ap (λ (b : ℕ). Ok b) (sym (capped_low 65537 bytes inv.few)) ∙ sym (ap (scanned_on bytes walk.clockwork) e) ∙ inv.same
 
   pub scan_stopped : commands_from s walk.at ≡ stopped walk.at
-      → Stopped walk.at ≡ scanned_on opening from.clockwork (commands_from s from.at)
+      → Err (BadCommand walk.at) ≡ scanned_on opening from.clockwork (commands_from s from.at)
   scan_stopped e = sym (ap (scanned_on bytes walk.clockwork) e) ∙ inv.same
 
 -- ---- what it found
-pub found_good : (n : ℕ) (c : Clockwork) (t : Track) {bytes : ℕ} → scanned_on n c t ≡ Good bytes → bytes ≡ capped 65537 (n + length (bytes_on c t))
+pub found_good : (n : ℕ) (c : Clockwork) (t : Track) {bytes : ℕ} → scanned_on n c t ≡ Ok bytes → bytes ≡ capped 65537 (n + length (bytes_on c t))
 unfolding bytes_on
 found_good n c ended {bytes} e = let f : capped 65537 n ≡ bytes = cc in sym f ∙ ap (capped 65537) (sym (add-zero n))
 found_good n c (stopped place) e = cc
@@ -95,13 +103,13 @@ found_good n c (after command rest) e =
     found_good (n + length x) (moved_of c command) rest e
     ∙ ap (capped 65537) (add_assoc n (length x) (length (bytes_on (moved_of c command) rest)) ∙ ap (λ (m : ℕ). n + m) (sym l))
 
-pub good_goes : (n : ℕ) (c : Clockwork) (t : Track) {bytes : ℕ} → scanned_on n c t ≡ Good bytes → (a : Imported) → or_stopped t a ≡ a
+pub good_goes : (n : ℕ) (c : Clockwork) (t : Track) {bytes : ℕ} → scanned_on n c t ≡ Ok bytes → (a : Imported) → or_stopped t a ≡ a
 unfolding or_stopped
 good_goes n c ended e a = refl
 good_goes n c (stopped place) e a = cc
 good_goes n c (after command rest) e a = good_goes (n + length (bytes_by c command)) (moved_of c command) rest e a
 
-pub found_stopped : (n : ℕ) (c : Clockwork) (t : Track) {place : ℕ} → scanned_on n c t ≡ Stopped place → (a : Imported) → or_stopped t a ≡ BadCommand place
+pub found_stopped : (n : ℕ) (c : Clockwork) (t : Track) {r : ImportRefusal} → scanned_on n c t ≡ Err r → (a : Imported) → or_stopped t a ≡ Err r
 unfolding or_stopped
 found_stopped n c ended e a = cc
 found_stopped n c (stopped place) e a = cc

@@ -2,6 +2,7 @@
 use Rattle.std.specs.Prelude.{ℕ, ◌+◌, ◌*◌, ◌/◌, ◌%◌}
 use Rattle.log_vgm.specs.declared.command.Command.{Command}
 use Rattle.log_vgm.specs.declared.command.Command.TheVariants.{Store, Wait}
+use Rattle.log_vgm.specs.declared.command.Taken.{Taken}
 use Rattle.log_vgm.specs.declared.clockwork.Clockwork.{Clockwork}
 use Rattle.log_vgm.specs.declared.clockwork.Walk.{Walk}
 
@@ -30,9 +31,9 @@ abbrev pub moved_of : Clockwork → Command → Clockwork
 moved_of c (Store register value) = c
 moved_of c (Wait samples) = record { rest = parts_in c samples % 11025; calls = (c.calls % 16384 + calls_in c samples) % 16384 }
 
--- before the first command, and after one with so many bytes behind its first
+-- before the first command, and after one with the bytes behind its first
 abbrev pub starting_at : ℕ → Walk
 starting_at start = record { at = start; clockwork = clockwork_at 0 }
 
-abbrev pub walked_of : Walk → Command → ℕ → Walk
-walked_of w command more = record { at = w.at + 1 + more; clockwork = moved_of w.clockwork command }
+abbrev pub walked_of : Walk → Taken → Walk
+walked_of w t = record { at = w.at + 1 + t.more; clockwork = moved_of w.clockwork t.command }

@@ -2,7 +2,7 @@
 ghost use Rattle.std.specs.Prelude.{◌≡◌, ◌+◌, ◌^◌, ◌<◌};
 ghost use Rattle.log_vgm.specs.Clockwork.{starting_at, parts_in, calls_in, moved_of, walked_of};
 
-use crate::command::Command;
+use crate::command::{Command, Taken};
 
 // Where an import is: what the samples so far leave of a call, in 11,025ths of one, and the calls so far, of which 16,384 bring divider and phase round.
 #[derive(Clone, Copy)]
@@ -63,13 +63,13 @@ fn moved(clockwork: Clockwork, command: Command) -> Clockwork
     }
 }
 
-// After a command with so many bytes behind its first.
-pub fn walked(walk: Walk, command: Command, more: usize) -> Walk
-    requires { walk.at + 1 + more < 2 ^ 64 }
-    ensures { result ≡ walked_of walk command more }
+// After a command.
+pub fn walked(walk: Walk, taken: Taken) -> Walk
+    requires { walk.at + 1 + taken.more < 2 ^ 64 }
+    ensures { result ≡ walked_of walk taken }
 {
     Walk {
-        at: walk.at + 1 + more,
-        clockwork: moved(walk.clockwork, command),
+        at: walk.at + 1 + taken.more,
+        clockwork: moved(walk.clockwork, taken.command),
     }
 }

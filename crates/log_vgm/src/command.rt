@@ -2,8 +2,6 @@
 ghost use Rattle.std.specs.Prelude.{◌≡◌};
 ghost use Rattle.log_vgm.specs.Commands.{store_of, long_of, waits_of, short_of, next_at};
 
-use crate::bytes::two;
-
 // A value for the register so many above FF10, or a wait of so many samples at 44,100 a second.
 #[derive(Clone, Copy)]
 pub enum Command {
@@ -11,81 +9,73 @@ pub enum Command {
     Wait { samples: u16 },
 }
 
-// What stands at a place: a command with the bytes after its first, the end, or what is not taken.
+// A command of a file, and how many bytes come after its first.
 #[derive(Clone, Copy)]
-pub enum Next {
-    Taken { command: Command, more: usize },
-    End,
-    Bad,
+pub struct Taken {
+    pub command: Command,
+    pub more: usize,
 }
 
+// What is not taken: another command, one that is cut short, or nothing where an end should be.
+#[derive(Clone, Copy)]
+pub struct NotTaken;
+
 // B3: registers up to the last byte of the wave's RAM.
-fn store_of(register: u8, value: u8) -> Next
+fn store_of(register: u8, value: u8) -> Result<Option<Taken>, NotTaken>
     ensures { result ≡ store_of register value }
 {
     if register <= 0x2F {
         let command = Command::Store { register, value };
-        return Next::Taken { command, more: 2 };
+        return Ok(Some(Taken { command, more: 2 }));
     }
-    Next::Bad
+    Err(NotTaken)
 }
 
 // 61: the samples in two bytes.
-fn long_of(low: u8, high: u8) -> Next
+fn long_of(low: u8, high: u8) -> Taken
     ensures { result ≡ long_of low high }
 {
-    let command = Command::Wait {
-        samples: two(low, high),
-    };
-    Next::Taken { command, more: 2 }
+    let samples = u16::from_le_bytes([low, high]);
+    Taken {
+        command: Command::Wait { samples },
+        more: 2,
+    }
 }
 
 // A wait that is one byte.
-fn waits(samples: u16) -> Next
+fn waits(samples: u16) -> Taken
     ensures { result ≡ waits_of samples }
 {
-    let command = Command::Wait { samples };
-    Next::Taken { command, more: 0 }
+    Taken {
+        command: Command::Wait { samples },
+        more: 0,
+    }
 }
 
 // Commands of one byte: 62 and 63 are a sixtieth and a fiftieth of a second, 70 to 7F are 1 to 16 samples, 66 is the end.
-fn short_of(first: u8) -> Next
+fn short_of(first: u8) -> Result<Option<Taken>, NotTaken>
     ensures { result ≡ short_of first }
 {
-    if first == 0x62 {
-        return waits(735);
+    match first {
+        0x62 => Ok(Some(waits(735))),
+        0x63 => Ok(Some(waits(882))),
+        0x66 => Ok(None),
+        0x70..=0x7F => Ok(Some(waits((first % 16 + 1) as u16))),
+        _ => Err(NotTaken),
     }
-    if first == 0x63 {
-        return waits(882);
-    }
-    if first == 0x66 {
-        return Next::End;
-    }
-    if (0x70 <= first) & (first <= 0x7F) {
-        return waits((first % 16 + 1) as u16);
-    }
-    Next::Bad
 }
 
-// The command at a place of the file.
-pub fn next_at(vgm: &[u8], at: usize) -> Next
+// The command at a place of the file, or none at the end of its commands.
+pub fn next_at(vgm: &[u8], at: usize) -> Result<Option<Taken>, NotTaken>
     ensures { result ≡ next_at vgm.now at }
 {
-    let n = vgm.len();
-    if n <= at {
-        return Next::Bad;
+    let Some(rest) = vgm.get(at..) else {
+        return Err(NotTaken);
+    };
+    match rest {
+        [0xB3, register, value, ..] => store_of(*register, *value),
+        [0x61, low, high, ..] => Ok(Some(long_of(*low, *high))),
+        [first, ..] => short_of(*first),
+        [] => Err(NotTaken),
     }
-    let first = vgm[at];
-    if (first != 0xB3) & (first != 0x61) {
-        return short_of(first);
-    }
-    if 3 <= n - at {
-        let second = vgm[at + 1];
-        let third = vgm[at + 2];
-        if first == 0xB3 {
-            return store_of(second, third);
-        }
-        return long_of(second, third);
-    }
-    Next::Bad
 }

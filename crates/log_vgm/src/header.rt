@@ -1,8 +1,6 @@
 // The header of a VGM file.
-ghost use Rattle.std.specs.Prelude.{◌≡◌, ◌≤◌, length};
-ghost use Rattle.log_vgm.specs.Header.{start_of, bad_header};
-
-use crate::bytes::four;
+ghost use Rattle.std.specs.Prelude.{◌≡◌, ◌+◌, ◌<◌, ◌≤◌, length};
+ghost use Rattle.log_vgm.specs.Header.{four_at, start_of, bad_header};
 
 // The bytes of a header that has the Game Boy's clock in it.
 const HEADER: usize = 0x84;
@@ -15,6 +13,14 @@ const VERSION: u32 = 0x161;
 
 // Hertz.
 const CLOCK: u32 = 4_194_304;
+
+// The number in the four bytes at a place, low byte first.
+fn four(vgm: &[u8], at: usize) -> u32
+    requires { at + 3 < length vgm.now }
+    ensures { result ≡ four_at vgm.now at }
+{
+    u32::from_le_bytes([vgm[at], vgm[at + 1], vgm[at + 2], vgm[at + 3]])
+}
 
 // The place of the first command: its offset is counted from where it stands.
 pub fn start_of(vgm: &[u8]) -> usize

@@ -2,17 +2,11 @@
 ghost use Rattle.std.specs.Prelude.{◌≡◌, ◌≤◌, ◌<◌, length};
 ghost use Rattle.log_vgm.specs.Commands.{commands_from};
 ghost use Rattle.log_vgm.specs.Log.{bytes_by, wait_bytes};
-ghost use Rattle.log_vgm.specs.Imports.{capped, scanned_on};
+ghost use Rattle.log_vgm.specs.Imports.{scanned_on};
 
 use crate::clockwork::{Clockwork, Walk, calls_in, walked};
-use crate::command::{Command, Next, next_at};
-
-// The bytes of a file's log, 65,537 for more than a log may have, or the place where the scan stopped.
-#[derive(Clone, Copy)]
-pub enum Scanned {
-    Good { bytes: u32 },
-    Stopped { place: usize },
-}
+use crate::command::{Command, next_at};
+use crate::refusal::ImportRefusal;
 
 // The bytes of the records of so many calls.
 fn wait_bytes(calls: u32) -> u32
@@ -40,32 +34,25 @@ fn bytes_of(clockwork: Clockwork, command: Command) -> u32
     }
 }
 
-// No more than one byte above the most that a log may have.
-fn counted(bytes: u32) -> u32
-    ensures { (result ≡ capped 65537 bytes) × (result ≤ 65537) }
+// Refusal 10, of what is not taken at a place.
+fn bad_command(place: usize) -> ImportRefusal
+    ensures { result ≡ ImportRefusal.BadCommand place }
 {
-    if 65537 < bytes { 65537 } else { bytes }
+    ImportRefusal::BadCommand {
+        place: place as u64,
+    }
 }
 
-// What the commands from a walk's place on come to, after so many bytes of a log.
-pub fn scan(vgm: &[u8], from: Walk, opening: u32) -> Scanned
+// The bytes of a log with the commands from a walk's place on, after so many bytes of it: 65,537, one above the most, for more.
+pub fn scan(vgm: &[u8], from: Walk, opening: u32) -> Result<u32, ImportRefusal>
     requires { opening ≤ 65537 }
     ensures { result ≡ scanned_on opening from.clockwork (commands_from vgm.now from.at) }
 {
     let mut walk = from;
     let mut bytes = opening;
-    loop {
-        match next_at(vgm, walk.at) {
-            Next::Taken { command, more } => {
-                bytes = counted(bytes + bytes_of(walk.clockwork, command));
-                walk = walked(walk, command, more);
-            }
-            Next::End => {
-                return Scanned::Good { bytes };
-            }
-            Next::Bad => {
-                return Scanned::Stopped { place: walk.at };
-            }
-        }
+    while let Some(taken) = next_at(vgm, walk.at).map_err(|_| bad_command(walk.at))? {
+        bytes = (bytes + bytes_of(walk.clockwork, taken.command)).min(65537);
+        walk = walked(walk, taken);
     }
+    Ok(bytes)
 }

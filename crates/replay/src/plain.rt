@@ -10,7 +10,7 @@ use log_player::log::start_byte;
 use log_player::play::start;
 use log_records::cut::{Cut, cut_at, version_of};
 use log_records::divider::{Divider, divider_at};
-use log_records::judge::{Record, judge};
+use log_records::judge::{Record, WrongRecord, judge};
 
 // The place after a byte for which there is no room, and after anything that a log which is not refused never asks for.
 pub const NOWHERE: usize = 0xFFFF_FFFF_FFFF_FFFF;
@@ -126,25 +126,27 @@ fn play_record(p: Play, version: u8, body: &[u8], out: &mut [u8]) -> Play
     let apu = p.apu;
     let at = p.at;
     match judge(version, body) {
-        Record::Write { addr, value } => {
+        Ok(Record::Write { addr, value }) => {
             let written = apu.write_register(addr, value);
             let next = written.apu;
             Play { apu: next, at }
         }
-        Record::Read { addr } => {
+        Ok(Record::Read { addr }) => {
             let end = put_read(out, at, apu.read_register(addr));
             Play { apu, at: end }
         }
-        Record::Clock {
-            double,
-            divider,
-            count,
-        } => play_calls(p, double, divider, count, out),
-        Record::Pcm => {
+        Ok(
+            Record::Clock {
+                double,
+                divider,
+                count,
+            },
+        ) => play_calls(p, double, divider, count, out),
+        Ok(Record::Pcm) => {
             let end = put_pcm(out, at, apu.read_pcm12(), apu.read_pcm34());
             Play { apu, at: end }
         }
-        Record::Wrong => Play { apu, at: NOWHERE },
+        Err(WrongRecord) => Play { apu, at: NOWHERE },
     }
 }
 

@@ -6,15 +6,14 @@ use native.Mathlib.Omega.{arith}
 use borrow.Author.Tests.{ltb-false}
 use Rattle.ground.proofs.Cases.{pick_holds}
 use Rattle.log_items.proofs.Stores.{prefix_counts}
-use Rattle.log_vgm.specs.declared.import.Imported.{Imported}
-use Rattle.log_vgm.specs.declared.import.Imported.TheVariants.{Done}
+use Rattle.std.specs.Prelude.{Ok}
 use Rattle.log_vgm.specs.Commands.{Track, ended, stopped, after}
-use Rattle.log_vgm.specs.Imports.{or_stopped, fitted, imported_of}
+use Rattle.log_vgm.specs.Imports.{Imported, or_stopped, fitted, imported_of}
 use Rattle.importer.proofs.import.Goals as goal
 
 -- where it is an import, its bytes are no more than the room
 abbrev Fits : ℕ → Imported → Type 0
-Fits room a = (written : ℕ) → a ≡ Done written → written ≤ room
+Fits room a = (written : ℕ) → a ≡ Ok written → written ≤ room
 
 fitted_fits : (room needed : ℕ) → Fits room (fitted room needed)
 unfolding fitted
@@ -34,10 +33,10 @@ import_fits vgm room = pick_holds (Fits room) _ _ _ (λ _ w e. cc) (λ _. stoppe
 
 pub slice_bounds-log-end : goal.slice_bounds-log-end
 slice_bounds-log-end g c =
-    let fits = import_fits _ _ _ (sym c.import_log.ensures.value ∙ c.in-Done.is) in
+    let fits = import_fits _ _ _ (sym c.import_log.ensures.value ∙ c.in-Ok.is) in
     omega (arith, fits, c.import_log.auto.log)
 
 pub slice_bounds-write_all-end : goal.slice_bounds-write_all-end
 slice_bounds-write_all-end g c =
-    let fits = import_fits _ _ _ (sym c.import_log.ensures.value ∙ c.in-Done.is) in
+    let fits = import_fits _ _ _ (sym c.import_log.ensures.value ∙ c.in-Ok.is) in
     prefix_counts _ _ (omega (arith, fits, c.import_log.auto.log))

@@ -1,33 +1,23 @@
--- Up to the next change of the bit, or all of them. Assumes nothing.
-use borrow.Author.Tests.{le-leb, lt-leb}
+-- All of them, or up to the next change of the bit. Assumes nothing.
+use Prim.Native.Nat.{◌+◌, ◌*◌}
+use mathlib.Core.Path.{refl}
 use native.Mathlib.Omega.{arith}
-use Rattle.ground.specs.Pick.{pick}
-use Rattle.apu_run.proofs.Dividers.{place_of, stands, runs, change_some}
+use Rattle.std.proofs.Math.Nat.{min-le_left, min-le_right, le-min}
+use Rattle.apu_run.proofs.Dividers.{stands, runs, change_some}
 use Rattle.apu_run.proofs.calls.same_bit.Goals as goal
 
-pub returns-then-some-count : goal.returns-then-some-count
-unfolding pick
-returns-then-some-count c =
-    let running = c.if-divider.true in
-    let change = c.until_change-some.ensures in
-    let some = change_some c.args.double (place_of c.args.divider c.args.i) in
-    record {
-      value = rw (running, ← change, lt-leb _ _ c.if-some-count.true);
-      lower_bound = (omega (arith, change, some), omega arith);
-      one_bit = runs _ c.args.divider _ _ running (omega (arith, change));
-    }
+pub returns-in-Standing : goal.returns-in-Standing
+returns-in-Standing c =
+    rw c.in-Standing.is
+    (record { value = refl; lower_bound = (c.requires.le_count, omega arith); one_bit = stands c.args.double c.in-Standing.byte c.args.i c.args.count })
 
-pub returns-then-divider : goal.returns-then-divider
-unfolding pick
-returns-then-divider c =
-    let running = c.if-divider.true in
-    let change = c.until_change-some.ensures in
-    record {
-      value = rw (running, ← change, le-leb _ _ c.if-some-count.false);
-      lower_bound = (c.requires.le_count, omega arith);
-      one_bit = runs _ c.args.divider _ _ running (omega (arith, change));
-    }
-
-pub returns : goal.returns
-unfolding pick
-returns c = record { value = rw c.if-divider.false; lower_bound = (c.requires.le_count, omega arith); one_bit = stands _ c.args.divider _ _ c.if-divider.false }
+pub returns-in-Running : goal.returns-in-Running
+returns-in-Running c =
+    let a = c.args in
+    let change = change_some a.double (c.in-Running.byte * 64 + c.in-Running.phase + a.i) in
+    rw (c.in-Running.is, c.min.ensures, c.until_change.ensures)
+    (record {
+      value = refl;
+      lower_bound = (le-min change c.requires.le_count, min-le_right _ _);
+      one_bit = runs a.double c.in-Running.byte c.in-Running.phase a.i _ (min-le_left _ _);
+    })

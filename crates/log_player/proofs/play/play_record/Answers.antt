@@ -11,24 +11,21 @@ write_register-written-requires c = c.requires.held
 
 pub put_read-requires : goal.put_read-requires
 put_read-requires c =
-    let judged = c.judge in
     let a = c.args in
-    let is = sym judged.ensures ∙ c.in-Read.is in
+    let is = sym (rw c.in-Ok-Read.field-0-is at c.in-Ok-Read.ensures) in
     read_room (judge_of a.version a.body.now) a.p a.out.now c.requires.apu_in_bounds _ is
 
 pub overflow_add-result : goal.overflow_add-result
 overflow_add-result c =
-    let judged = c.judge in
     let a = c.args in
-    let is = sym judged.ensures ∙ c.in-Read.is in
+    let is = sym (rw c.in-Ok-Read.field-0-is at c.in-Ok-Read.ensures) in
     let room = read_room (judge_of a.version a.body.now) a.p a.out.now c.requires.apu_in_bounds _ is in
     omega (arith, room)
 
 pub play_clocks-requires : goal.play_clocks-requires
 play_clocks-requires c =
-    let judged = c.judge in
     let a = c.args in
-    let is = sym judged.ensures ∙ c.in-Clock.is in
+    let is = sym (rw c.in-Ok-Clock.field-0-is at c.in-Ok-Clock.ensures) in
     let few = clock_few a.version a.body.now _ _ _ is in
     let room = clock_room (judge_of a.version a.body.now) a.p a.out.now c.requires.apu_in_bounds _ _ _ is in
     record { held = c.requires.held; floats_held = c.requires.floats_held; from_bound = omega (arith, few); apu_in_bounds = room }
@@ -41,80 +38,75 @@ read_pcm34-requires c = c.requires.held
 
 pub put_pcm-requires : goal.put_pcm-requires
 put_pcm-requires c =
-    let judged = c.judge in
     let a = c.args in
-    let is = sym judged.ensures ∙ c.in-Pcm.is in
+    let is = sym (rw c.in-Ok-Pcm.field-0-is at c.in-Ok-Pcm.ensures) in
     pcm_room (judge_of a.version a.body.now) a.p a.out.now c.requires.apu_in_bounds is
 
-pub overflow_add-result-in-Pcm : goal.overflow_add-result-in-Pcm
-overflow_add-result-in-Pcm c =
-    let judged = c.judge in
+pub overflow_add-result-in-Ok-Pcm : goal.overflow_add-result-in-Ok-Pcm
+overflow_add-result-in-Ok-Pcm c =
     let a = c.args in
-    let is = sym judged.ensures ∙ c.in-Pcm.is in
+    let is = sym (rw c.in-Ok-Pcm.field-0-is at c.in-Ok-Pcm.ensures) in
     let room = pcm_room (judge_of a.version a.body.now) a.p a.out.now c.requires.apu_in_bounds is in
     omega (arith, room)
 
-pub returns-in-Write : goal.returns-in-Write
-returns-in-Write c =
+pub returns-in-Ok-Write : goal.returns-in-Ok-Write
+returns-in-Ok-Write c =
     let write = c.write_register-written in
     let a = c.args in
-    let is = sym c.judge.ensures ∙ c.in-Write.is in
+    let is = sym (rw c.in-Ok-Write.field-0-is at c.in-Ok-Write.ensures) in
     let made =
     write_made (judge_of a.version a.body.now) a.p a.out.now c.requires.held c.requires.floats_held
-    c.in-Write.addr c.in-Write.value write.result is write.ensures.value.0 write.ensures.held in
+    c.in-Ok-Write.addr c.in-Ok-Write.value write.result is write.ensures.value.0 write.ensures.held in
     record { value = made.0; out_after = made.1.0; still_held = made.1.1 }
 
-pub shape_of-out-in-Read : goal.shape_of-out-in-Read
-shape_of-out-in-Read c = c.put_read.auto.out
+pub shape_of-out-in-Ok-Read : goal.shape_of-out-in-Ok-Read
+shape_of-out-in-Ok-Read c = c.put_read.auto.out
 
-pub returns-in-Read : goal.returns-in-Read
-returns-in-Read c =
+pub returns-in-Ok-Read : goal.returns-in-Ok-Read
+returns-in-Ok-Read c =
     let put = c.put_read in
     let byte = c.byte_of in
     let read = c.read_register in
-    let judged = c.judge in
     let a = c.args in
-    let is = sym judged.ensures ∙ c.in-Read.is in
+    let is = sym (rw c.in-Ok-Read.field-0-is at c.in-Ok-Read.ensures) in
     let made =
     read_made (judge_of a.version a.body.now) a.p a.out.now c.requires.held c.requires.floats_held
     _ byte.result _ is (rw read.ensures.0 at byte.ensures) put.ensures in
     record { value = made.0; out_after = made.1.0; still_held = made.1.1 }
 
-pub shape_of-out-in-Clock : goal.shape_of-out-in-Clock
-shape_of-out-in-Clock c = c.play_clocks.auto.out
+pub shape_of-out-in-Ok-Clock : goal.shape_of-out-in-Ok-Clock
+shape_of-out-in-Ok-Clock c = c.play_clocks.auto.out
 
-pub returns-in-Clock : goal.returns-in-Clock
-returns-in-Clock c =
+pub returns-in-Ok-Clock : goal.returns-in-Ok-Clock
+returns-in-Ok-Clock c =
     let clocks = c.play_clocks in
-    let judged = c.judge in
     let a = c.args in
-    let is = sym judged.ensures ∙ c.in-Clock.is in
+    let is = sym (rw c.in-Ok-Clock.field-0-is at c.in-Ok-Clock.ensures) in
     let made =
     clock_made (judge_of a.version a.body.now) a.p a.out.now c.requires.held c.requires.floats_held _ _ _ _ _ is
     (clocks.ensures.value, (clocks.ensures.out_after, clocks.ensures.still_held)) in
     record { value = made.0; out_after = made.1.0; still_held = made.1.1 }
 
-pub shape_of-out-in-Pcm : goal.shape_of-out-in-Pcm
-shape_of-out-in-Pcm c = c.put_pcm.auto.out
+pub shape_of-out-in-Ok-Pcm : goal.shape_of-out-in-Ok-Pcm
+shape_of-out-in-Ok-Pcm c = c.put_pcm.auto.out
 
-pub returns-in-Pcm : goal.returns-in-Pcm
-returns-in-Pcm c =
+pub returns-in-Ok-Pcm : goal.returns-in-Ok-Pcm
+returns-in-Ok-Pcm c =
     let put = c.put_pcm in
     let high = c.read_pcm34 in
     let low = c.read_pcm12 in
-    let judged = c.judge in
     let a = c.args in
-    let is = sym judged.ensures ∙ c.in-Pcm.is in
+    let is = sym (rw c.in-Ok-Pcm.field-0-is at c.in-Ok-Pcm.ensures) in
     let made =
     pcm_made (judge_of a.version a.body.now) a.p a.out.now c.requires.held c.requires.floats_held
     low.result high.result _ is low.ensures high.ensures put.ensures in
     record { value = made.0; out_after = made.1.0; still_held = made.1.1 }
 
-pub returns-in-Wrong : goal.returns-in-Wrong
-returns-in-Wrong c =
+pub returns-in-Err : goal.returns-in-Err
+returns-in-Err c =
     let judged = c.judge in
     let a = c.args in
-    let is = sym judged.ensures ∙ c.in-Wrong.is in
+    let is = sym judged.ensures ∙ c.in-Err.is in
     let made =
     wrong_made (judge_of a.version a.body.now) a.p a.out.now c.requires.held c.requires.floats_held is in
     record { value = made.0; out_after = made.1.0; still_held = made.1.1 }

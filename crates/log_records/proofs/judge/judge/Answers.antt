@@ -8,45 +8,24 @@ pub returns-then-body-eq0 : goal.returns-then-body-eq0
 unfolding pick judge_of
 returns-then-body-eq0 c = rw (eq-eqb _ _ c.if-body-eq0.true)
 
-pub returns-then-kind-eq1 : goal.returns-then-kind-eq1
+pub returns-in-1 : goal.returns-in-1
 unfolding pick judge_of
-returns-then-kind-eq1 c =
-    let if2 = c.if-kind-eq1 in
-    let if1 = c.if-body-eq0 in
-    rw (c.judge_write.ensures, ne_eqb _ _ if1.false, eq-eqb _ _ if2.true)
+returns-in-1 c = rw (c.judge_write.ensures, ne_eqb _ _ c.if-body-eq0.false, c.in-1.is)
 
-pub returns-then-kind-eq2 : goal.returns-then-kind-eq2
+pub returns-in-2 : goal.returns-in-2
 unfolding pick judge_of
-returns-then-kind-eq2 c =
-    let if3 = c.if-kind-eq2 in
-    let if2 = c.if-kind-eq1 in
-    let if1 = c.if-body-eq0 in
-    rw (c.judge_read.ensures, ne_eqb _ _ if1.false, ne_eqb _ _ if2.false, eq-eqb _ _ if3.true)
+returns-in-2 c = rw (c.judge_read.ensures, ne_eqb _ _ c.if-body-eq0.false, c.in-2.is)
 
-pub returns-then-kind-eq3 : goal.returns-then-kind-eq3
+pub returns-in-3 : goal.returns-in-3
 unfolding pick judge_of
-returns-then-kind-eq3 c =
-    let if4 = c.if-kind-eq3 in
-    let if3 = c.if-kind-eq2 in
-    let if2 = c.if-kind-eq1 in
-    let if1 = c.if-body-eq0 in
-    rw (c.judge_clock.ensures, ne_eqb _ _ if1.false, ne_eqb _ _ if2.false, ne_eqb _ _ if3.false, eq-eqb _ _ if4.true)
+returns-in-3 c = rw (c.judge_clock.ensures, ne_eqb _ _ c.if-body-eq0.false, c.in-3.is)
 
-pub returns-then-kind-eq4 : goal.returns-then-kind-eq4
+pub returns-in-4 : goal.returns-in-4
 unfolding pick judge_of
-returns-then-kind-eq4 c =
-    let if5 = c.if-kind-eq4 in
-    let if4 = c.if-kind-eq3 in
-    let if3 = c.if-kind-eq2 in
-    let if2 = c.if-kind-eq1 in
-    let if1 = c.if-body-eq0 in
-    rw (c.judge_pcm.ensures, ne_eqb _ _ if1.false, ne_eqb _ _ if2.false, ne_eqb _ _ if3.false, ne_eqb _ _ if4.false, eq-eqb _ _ if5.true)
+returns-in-4 c = rw (c.judge_pcm.ensures, ne_eqb _ _ c.if-body-eq0.false, c.in-4.is)
 
-pub returns : goal.returns
+pub returns-in_default : goal.returns-in_default
 unfolding pick judge_of
-returns c =
-    let if4 = c.if-kind-eq3 in
-    let if3 = c.if-kind-eq2 in
-    let if2 = c.if-kind-eq1 in
-    let if1 = c.if-body-eq0 in
-    rw (ne_eqb _ _ if1.false, ne_eqb _ _ if2.false, ne_eqb _ _ if3.false, ne_eqb _ _ if4.false, ne_eqb _ _ c.if-kind-eq4.false)
+returns-in_default c =
+    let rest = c.in_default.in_default-own.rest in
+    rw (ne_eqb _ _ c.if-body-eq0.false, ne_eqb _ _ rest.0.0.0.1, ne_eqb _ _ rest.0.0.1, ne_eqb _ _ rest.0.1, ne_eqb _ _ rest.1)

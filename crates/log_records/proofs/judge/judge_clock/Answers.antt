@@ -15,7 +15,7 @@ returns-then-fair c =
     let if1 = c.if-body-length in
     let clock-length = c.clock_length-length in
     let said = sym fair.ensures ∙ if2.true in
-    rw (← clock-length.ensures.value, ← divider-in.ensures, ← word_at.ensures, eq-eqb _ _ if1.true, said)
+    rw (← clock-length.ensures.value, ← divider-in.ensures, ← word_at.ensures, eq-eqb _ _ if1.false, said)
 
 pub returns-else-fair : goal.returns-else-fair
 unfolding pick clock_of
@@ -27,11 +27,11 @@ returns-else-fair c =
     let if1 = c.if-body-length in
     let clock-length = c.clock_length-length in
     let said = sym fair.ensures ∙ if2.false in
-    rw (← clock-length.ensures.value, ← divider-in.ensures, ← word_at.ensures, eq-eqb _ _ if1.true, said)
+    rw (← clock-length.ensures.value, ← divider-in.ensures, ← word_at.ensures, eq-eqb _ _ if1.false, said)
 
-pub returns-else-body-length : goal.returns-else-body-length
+pub returns-then-body-length : goal.returns-then-body-length
 unfolding pick clock_of
-returns-else-body-length c =
+returns-then-body-length c =
     let if1 = c.if-body-length in
     let clock-length = c.clock_length-length in
-    rw (← clock-length.ensures.value, ne_eqb _ _ if1.false)
+    rw (← clock-length.ensures.value, ne_eqb _ _ if1.true)

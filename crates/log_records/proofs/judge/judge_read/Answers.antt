@@ -9,16 +9,16 @@ pub returns-then-is_sound : goal.returns-then-is_sound
 unfolding pick read_of
 returns-then-is_sound c =
     let word = c.word_at-addr in
-    let if1 = c.if-body-eq3 in
-    rw (← word.ensures, eq-eqb _ _ if1.true, sym c.is_sound.ensures ∙ c.if-is_sound.true)
+    let if1 = c.if-body-ne3 in
+    rw (← word.ensures, eq-eqb _ _ if1.false, sym c.is_sound.ensures ∙ c.if-is_sound.true)
 
 pub returns-else-is_sound : goal.returns-else-is_sound
 unfolding pick read_of
 returns-else-is_sound c =
     let word = c.word_at-addr in
-    let if1 = c.if-body-eq3 in
-    rw (← word.ensures, eq-eqb _ _ if1.true, sym c.is_sound.ensures ∙ c.if-is_sound.false)
+    let if1 = c.if-body-ne3 in
+    rw (← word.ensures, eq-eqb _ _ if1.false, sym c.is_sound.ensures ∙ c.if-is_sound.false)
 
-pub returns-else-body-eq3 : goal.returns-else-body-eq3
+pub returns-then-body-ne3 : goal.returns-then-body-ne3
 unfolding pick read_of
-returns-else-body-eq3 c = rw (ne_eqb _ _ c.if-body-eq3.false)
+returns-then-body-ne3 c = rw (ne_eqb _ _ c.if-body-ne3.true)

@@ -9,16 +9,16 @@ pub returns-then-is_sound : goal.returns-then-is_sound
 unfolding pick write_of
 returns-then-is_sound c =
     let word = c.word_at-addr in
-    let if1 = c.if-body-eq4 in
-    rw (← word.ensures, eq-eqb _ _ if1.true, sym c.is_sound.ensures ∙ c.if-is_sound.true)
+    let if1 = c.if-body-ne4 in
+    rw (← word.ensures, eq-eqb _ _ if1.false, sym c.is_sound.ensures ∙ c.if-is_sound.true)
 
 pub returns-else-is_sound : goal.returns-else-is_sound
 unfolding pick write_of
 returns-else-is_sound c =
     let word = c.word_at-addr in
-    let if1 = c.if-body-eq4 in
-    rw (← word.ensures, eq-eqb _ _ if1.true, sym c.is_sound.ensures ∙ c.if-is_sound.false)
+    let if1 = c.if-body-ne4 in
+    rw (← word.ensures, eq-eqb _ _ if1.false, sym c.is_sound.ensures ∙ c.if-is_sound.false)
 
-pub returns-else-body-eq4 : goal.returns-else-body-eq4
+pub returns-then-body-ne4 : goal.returns-then-body-ne4
 unfolding pick write_of
-returns-else-body-eq4 c = rw (ne_eqb _ _ c.if-body-eq4.false)
+returns-then-body-ne4 c = rw (ne_eqb _ _ c.if-body-ne4.true)

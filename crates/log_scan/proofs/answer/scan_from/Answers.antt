@@ -41,9 +41,9 @@ counted-requires c =
     let pre = c.requires in
     record { held = pre; small = rw scan-list.ensures (small _ _ if1.false) }
 
-pub returns-in-Clear : goal.returns-in-Clear
+pub returns-in-None : goal.returns-in-None
 unfolding pick scanned_as
-returns-in-Clear c =
+returns-in-None c =
     let scan-list = c.scan_list-found in
     let version_of = c.version_of in
     let if2 = c.if-bad in
@@ -52,7 +52,7 @@ returns-in-Clear c =
     let args = c.args in
     let counted = c.counted in
     let found = own args.log.now scan-list.ensures version_of.ensures in
-    let first = sym (ap (λ (f : Found). f.wrong) found) ∙ c.in-Clear.is in
+    let first = sym (ap (λ (f : Found). f.wrong) found) ∙ c.in-None.is in
     record {
       value = rw (le-ltb _ _ if1.false, ← at-bad-start.ensures, if2.false, first) (rw found at counted.ensures);
       result_value =
@@ -60,9 +60,9 @@ returns-in-Clear c =
           (rw (le-ltb _ _ if1.false, ← at-bad-start.ensures, if2.false, first) (rw found at counted.ensures))).1;
     }
 
-pub returns-in-At : goal.returns-in-At
+pub returns-in-Some : goal.returns-in-Some
 unfolding pick scanned_as refused_for returned_for
-returns-in-At c =
+returns-in-Some c =
     let scan-list = c.scan_list-found in
     let version_of = c.version_of in
     let if2 = c.if-bad in
@@ -70,7 +70,7 @@ returns-in-At c =
     let at-bad-start = c.bad_start-bad in
     let args = c.args in
     let found = own args.log.now scan-list.ensures version_of.ensures in
-    let first = sym (ap (λ (f : Found). f.wrong) found) ∙ c.in-At.is in
+    let first = sym (ap (λ (f : Found). f.wrong) found) ∙ c.in-Some.is in
     record {
       value = rw (le-ltb _ _ if1.false, ← at-bad-start.ensures, if2.false, first);
       result_value = rw (le-ltb _ _ if1.false, ← at-bad-start.ensures, if2.false, first) (refl, refl);

@@ -1,21 +1,16 @@
 -- At every turn what was found, joined to what the rest of the log has, is what the whole log has; the place moves on by two bytes and more. Assumes nothing.
 use native.Mathlib.Omega.{arith}
 use Prim.Native.Nat.{◌+◌}
-use mathlib.Core.Path.{sym, ◌∙◌}
+use mathlib.Core.Path.{refl, sym, ◌∙◌}
 use native.Mathlib.Nat.{add-sub_cancel_left}
 use Rattle.log_records.proofs.Framing.{body_fits, at_body}
-use Rattle.log_scan.proofs.Counting.{good-both, begun, ended, cut_short, turn, fits, fits_none}
+use Rattle.log_scan.proofs.Counting.{ended, cut_short, turn, turn_good, fits}
 use Rattle.log_scan.proofs.scan.scan_list.Goals as goal
 use Rattle.log_scan.proofs.scan.scan_list.Invariants.{found}
 
-pub loop-at-init : goal.loop-at-init
-loop-at-init c =
-    let none = c.none-found in
-    rw none.ensures (begun _ _)
-
 -- ---- a clock record
-pub join_good-found-requires : goal.join_good-found-requires
-join_good-found-requires c =
+pub add-found-requires : goal.add-found-requires
+add-found-requires c =
     let one-clock = c.one_clock in
     let if1 = c.if-clocks in
     let clocks-at = c.clocks_at-clocks in
@@ -32,14 +27,13 @@ loop-at-smaller-then-clocks c =
 
 pub loop-at-preserved-then-clocks : goal.loop-at-preserved-then-clocks
 loop-at-preserved-then-clocks c =
-    let join-good = c.join_good-found in
+    let add = c.add-found in
     let one-clock = c.one_clock in
     let if1 = c.if-clocks in
     let clocks-at = c.clocks_at-clocks in
     let loop = c.loop-at in
     let stands = found clocks-at.ensures if1.true in
-    let good = join-good.ensures ∙ good-both loop.found one-clock.result (rw one-clock.ensures) in
-    rw (good, one-clock.ensures, stands.ends) (turn loop.invariant _ _ stands.is stands.fits)
+    rw (add.ensures, one-clock.ensures, stands.ends) (turn_good loop.invariant _ _ stands.is refl stands.fits)
 
 -- ---- the end, or a record cut short
 pub returns-in-End : goal.returns-in-End
@@ -48,19 +42,11 @@ returns-in-End c =
     let loop = c.loop-at in
     ended loop.invariant (sym cut_at.ensures ∙ c.in-End.is)
 
-pub join-requires : goal.join-requires
-join-requires c =
-    let none2 = c.none-end in
-    let loop = c.loop-at in
-    rw none2.ensures (fits_none loop.invariant _ c.requires)
-
 pub returns-in-Short : goal.returns-in-Short
 returns-in-Short c =
-    let join = c.join in
-    let none2 = c.none-end in
     let cut_at = c.cut_at in
     let loop = c.loop-at in
-    join.ensures ∙ rw none2.ensures (cut_short loop.invariant (sym cut_at.ensures ∙ c.in-Short.is))
+    rw c.or-found.ensures (cut_short loop.invariant (sym cut_at.ensures ∙ c.in-Short.is))
 
 -- ---- another record
 pub overflow_add-from : goal.overflow_add-from

@@ -1,38 +1,36 @@
--- The bytes left at the place and the first of them say which case holds. Assumes nothing.
-use borrow.Author.Tests.{eq-eqb, ne_eqb, le-leb, lt-leb}
-use Rattle.ground.specs.Pick.{pick}
-use Rattle.log_vgm.specs.Commands.{next_at}
+-- The bytes from the place on say which case holds. Assumes nothing.
+use mathlib.Core.Path.{◌≡◌, ap, ◌∙◌}
+use native.Mathlib.Omega.{arith}
+use borrow.Author.Tests.{ltb-true, ltb-false, eqb-false}
+use lib.ListN.{get_or}
+use Rattle.log_vgm.specs.Commands.{takes}
+use Rattle.log_vgm.proofs.Reading.{past, none_left, a_store, a_long, a_short}
 use Rattle.log_vgm.proofs.command.next_at.Goals as goal
+use Rattle.log_vgm.proofs.command.next_at.Goals.{then-rest-lt3, else-rest-lt3+in_default-1}
 
-pub returns-then-n-at : goal.returns-then-n-at
-unfolding next_at pick
-returns-then-n-at c = rw (le-leb _ _ c.if-n-at.true)
+pub returns-in_default : goal.returns-in_default
+returns-in_default c = past _ _ c.in_default.ensures.lookup.0
 
-pub returns-then-first : goal.returns-then-first
-unfolding next_at pick
-returns-then-first c = rw (c.short_of.ensures, lt-leb _ _ c.if-n-at.false, c.if-first.true)
+pub returns-in-empty : goal.returns-in-empty
+returns-in-empty c = let r = c.in-Some.ensures.lookup.0 in none_left _ _ r.2 r.3 c.in-empty.len_below
 
-pub returns-then-first-2 : goal.returns-then-first-2
-unfolding next_at pick
-returns-then-first-2 c =
-    let if4 = c.if-first-2 in
-    let if3 = c.if-n-at-ge3 in
-    let if2 = c.if-first in
-    let if1 = c.if-n-at in
-    rw (c.store_of.ensures, lt-leb _ _ if1.false, if2.false, le-leb _ _ if3.true, eq-eqb _ _ if4.true)
+pub returns-in-179 : goal.returns-in-179
+returns-in-179 c =
+    let r = c.in-Some.ensures.lookup.0 in
+    let kind : get_or c.in-Some.rest.now 0 0 ≡ 0xB3 = cc in
+    c.store_of.ensures ∙ a_store _ _ r.2 r.3 c.in-179.len_at_least kind
 
-pub returns-then-n-at-ge3 : goal.returns-then-n-at-ge3
-unfolding next_at pick
-returns-then-n-at-ge3 c =
-    let if4 = c.if-first-2 in
-    let if3 = c.if-n-at-ge3 in
-    let if2 = c.if-first in
-    let if1 = c.if-n-at in
-    rw (c.long_of.ensures, lt-leb _ _ if1.false, if2.false, le-leb _ _ if3.true, ne_eqb _ _ if4.false)
+pub returns-in-97 : goal.returns-in-97
+returns-in-97 c =
+    let r = c.in-Some.ensures.lookup.0 in
+    let kind : get_or c.in-Some.rest.now 0 0 ≡ 0x61 = cc in
+    ap takes c.long_of.ensures ∙ a_long _ _ r.2 r.3 c.in-97.len_at_least kind
 
-pub returns : goal.returns
-unfolding next_at pick
-returns c =
-    let if2 = c.if-first in
-    let if1 = c.if-n-at in
-    rw (lt-leb _ _ if1.false, if2.false, lt-leb _ _ c.if-n-at-ge3.false)
+pub returns-in-len1-up : goal.returns-in-len1-up
+returns-in-len1-up c =
+    let r = c.in-Some.ensures.lookup.0 in
+    c.short_of.ensures
+    ∙ elim c.in-len1-up-1.branch [
+      | then-rest-lt3 w ↦ a_short _ _ r.2 r.3 (omega (arith, ltb-false)) (λ h. omega (arith, ltb-true)) (λ h. omega (arith, ltb-true))
+      | else-rest-lt3+in_default-1 w ↦ a_short _ _ r.2 r.3 (omega (arith, ltb-false)) (λ h. omega (arith, eqb-false)) (λ h. omega (arith, eqb-false))
+    ]

@@ -1,40 +1,50 @@
 -- The byte says which case holds. Assumes nothing.
-use borrow.Author.Tests.{eq-eqb, ne_eqb}
+use Prim.{⊥}
+use Prim.Native.Nat.{ℕ, ◌≤◌, ◌+◌, ◌%◌}
+use mathlib.Core.Path.{◌≡◌}
+use native.Mathlib.Omega.{arith}
+use borrow.Author.Tests.{ne_eqb, le-leb, lt-leb}
 use Rattle.ground.specs.Pick.{pick}
-use Rattle.log_vgm.specs.Commands.{short_of}
+use Rattle.log_vgm.specs.Commands.{takes, waits_of, short_of}
 use Rattle.log_vgm.proofs.command.short_of.Goals as goal
 
-pub returns-then-first-eq98 : goal.returns-then-first-eq98
+wait_in_range : (first : ℕ) → 0x70 ≤ first → first ≤ 0x7F → takes (waits_of (first % 16 + 1)) ≡ short_of first
 unfolding short_of pick
-returns-then-first-eq98 c = rw (c.waits.ensures, eq-eqb _ _ c.if-first-eq98.true)
+wait_in_range first lo hi =
+    let a : first ≡ 0x62 → ⊥ = omega arith in
+    let b : first ≡ 0x63 → ⊥ = omega arith in
+    let d : first ≡ 0x66 → ⊥ = omega arith in
+    rw (ne_eqb _ _ a, ne_eqb _ _ b, ne_eqb _ _ d, le-leb _ _ lo, le-leb _ _ hi)
 
-pub returns-then-first-eq99 : goal.returns-then-first-eq99
+pub returns-in-98 : goal.returns-in-98
 unfolding short_of pick
-returns-then-first-eq99 c =
-    let if2 = c.if-first-eq99 in
-    let if1 = c.if-first-eq98 in
-    rw (c.waits-then-first-eq99.ensures, ne_eqb _ _ if1.false, eq-eqb _ _ if2.true)
+returns-in-98 c = rw (c.waits.ensures, c.in-98.is)
 
-pub returns-then-first-eq102 : goal.returns-then-first-eq102
+pub returns-in-99 : goal.returns-in-99
 unfolding short_of pick
-returns-then-first-eq102 c =
-    let if2 = c.if-first-eq99 in
-    let if1 = c.if-first-eq98 in
-    rw (ne_eqb _ _ if1.false, ne_eqb _ _ if2.false, eq-eqb _ _ c.if-first-eq102.true)
+returns-in-99 c = rw (c.waits-in-99.ensures, c.in-99.is)
 
-pub returns-then-first : goal.returns-then-first
+pub returns-in-102 : goal.returns-in-102
 unfolding short_of pick
-returns-then-first c =
-    let if4 = c.if-first in
-    let if3 = c.if-first-eq102 in
-    let if2 = c.if-first-eq99 in
-    let if1 = c.if-first-eq98 in
-    rw (c.waits-then-first.ensures, ne_eqb _ _ if1.false, ne_eqb _ _ if2.false, ne_eqb _ _ if3.false, if4.true)
+returns-in-102 c = rw c.in-102.is
 
-pub returns : goal.returns
+pub returns-in-112-to-127 : goal.returns-in-112-to-127
+returns-in-112-to-127 c = rw c.waits-in-112-to-127.ensures (wait_in_range _ (omega arith) (omega arith))
+
+pub returns-in_default : goal.returns-in_default
 unfolding short_of pick
-returns c =
-    let if3 = c.if-first-eq102 in
-    let if2 = c.if-first-eq99 in
-    let if1 = c.if-first-eq98 in
-    rw (ne_eqb _ _ if1.false, ne_eqb _ _ if2.false, ne_eqb _ _ if3.false, c.if-first.false)
+returns-in_default c =
+    let first = c.args.first in
+    let a : first ≡ 0x62 → ⊥ = omega arith in
+    let b : first ≡ 0x63 → ⊥ = omega arith in
+    let d : first ≡ 0x66 → ⊥ = omega arith in
+    rw (ne_eqb _ _ a, ne_eqb _ _ b, ne_eqb _ _ d, lt-leb 0x70 first (omega arith))
+
+pub returns-in_default-2 : goal.returns-in_default-2
+unfolding short_of pick
+returns-in_default-2 c =
+    let first = c.args.first in
+    let a : first ≡ 0x62 → ⊥ = omega arith in
+    let b : first ≡ 0x63 → ⊥ = omega arith in
+    let d : first ≡ 0x66 → ⊥ = omega arith in
+    rw (ne_eqb _ _ a, ne_eqb _ _ b, ne_eqb _ _ d, le-leb 0x70 first (omega arith), lt-leb first 0x7F (omega arith))

@@ -1,6 +1,6 @@
 -- Each way out is the case of `imported_of` that the header and the scan pick. Assumes nothing.
-use native.Mathlib.Omega.{arith}
 use mathlib.Core.Path.{sym, ◌∙◌}
+use Rattle.std.proofs.lemmas.Result.{err_from_is_err_and}
 use Rattle.log_vgm.proofs.Headers.{header_long}
 use Rattle.log_vgm.proofs.Answering.{bad_header_is, fitted_is, stopped_is}
 use Rattle.log_vgm.proofs.import.answer.Goals as goal
@@ -11,27 +11,15 @@ returns-then-bad_header c = bad_header_is _ _ (sym c.bad_header.ensures ∙ c.if
 pub start_of-requires : goal.start_of-requires
 start_of-requires c = header_long _ (sym c.bad_header.ensures ∙ c.if-bad_header.false)
 
-pub scan-requires : goal.scan-requires
-scan-requires c = omega arith
+pub returns-in_err-bytes : goal.returns-in_err-bytes
+returns-in_err-bytes c =
+    let right = sym c.bad_header.ensures ∙ c.if-bad_header.false in
+    let scanned = rw (c.starting.ensures, c.start_of.ensures) at c.scan.ensures in
+    let p = err_from_is_err_and c.from_residual.result c.from_residual.ensures.1 in
+    rw (p.1, p.2) (stopped_is _ _ right scanned c.in_err-bytes.was)
 
-pub returns-in-Good : goal.returns-in-Good
-returns-in-Good c =
-    let scan = c.scan in
-    let starting = c.starting in
-    let start_of_lem = c.start_of in
-    let if1 = c.if-bad_header in
-    let bad-header = c.bad_header in
-    let right = sym bad-header.ensures ∙ if1.false in
-    let scanned = rw (starting.ensures, start_of_lem.ensures) at scan.ensures in
-    c.fit.ensures ∙ fitted_is _ _ right scanned c.in-Good.is
-
-pub returns-in-Stopped : goal.returns-in-Stopped
-returns-in-Stopped c =
-    let scan = c.scan in
-    let starting = c.starting in
-    let start_of_lem = c.start_of in
-    let if1 = c.if-bad_header in
-    let bad-header = c.bad_header in
-    let right = sym bad-header.ensures ∙ if1.false in
-    let scanned = rw (starting.ensures, start_of_lem.ensures) at scan.ensures in
-    stopped_is _ _ right scanned c.in-Stopped.is
+pub returns : goal.returns
+returns c =
+    let right = sym c.bad_header.ensures ∙ c.if-bad_header.false in
+    let scanned = rw (c.starting.ensures, c.start_of.ensures) at c.scan.ensures in
+    c.fit.ensures ∙ fitted_is _ _ right scanned c.in_ok-bytes.was

@@ -4,8 +4,8 @@ use lib.ListN.{length}
 use Rattle.log_vgm.proofs.Scanning.{Scanning}
 use Rattle.log_vgm.proofs.scan.scan.Given as goal
 
-abbrev pub invariant-loop-command : goal.invariant-loop-command
-invariant-loop-command l = Scanning l.vgm l.initial.walk l.opening l.walk l.bytes
+abbrev pub invariant-loop-taken : goal.invariant-loop-taken
+invariant-loop-taken l = Scanning l.vgm l.initial.walk l.opening l.walk l.bytes
 
-abbrev pub decreases-loop-command : goal.decreases-loop-command
-decreases-loop-command l = length l.vgm - l.walk.at
+abbrev pub decreases-loop-taken : goal.decreases-loop-taken
+decreases-loop-taken l = length l.vgm - l.walk.at

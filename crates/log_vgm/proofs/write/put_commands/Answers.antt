@@ -1,61 +1,51 @@
 -- At every turn the bytes put so far, with those of the commands to come, are all of the log's; the place moves on by one byte and more. Assumes nothing.
 use native.Mathlib.Omega.{arith}
-use mathlib.Core.Path.{refl}
+use mathlib.Core.Path.{◌≡◌, refl, ap, ◌∙◌}
 use mathlib.Core.List.{[]}
+use Prim.Native.Nat.{ℕ, ◌+◌}
+use Rattle.std.specs.Prelude.{Option, None, Ok}
 use Rattle.log_vgm.specs.Log.{bytes_on}
 use Rattle.log_vgm.proofs.Walking.{taken_fits, at_taken, at_end, at_bad}
-use Rattle.log_vgm.proofs.Putting.{put_same, next_fits, put_more, ended_put, stopped_put}
+use Rattle.log_vgm.proofs.Putting.{part_long, part_put, next_fits, put_more, ended_put, stopped_put}
 use Rattle.log_vgm.proofs.write.put_commands.Goals as goal
 
-pub loop-command-init : goal.loop-command-init
+pub loop-taken-init : goal.loop-taken-init
 unfolding bytes_on
-loop-command-init c = record { gone = []; here = omega arith; bytes = refl; rest = refl; room = c.requires }
+loop-taken-init c = record { gone = []; here = refl; bytes = refl; rest = refl; room = c.requires }
 
 pub put_command-at-requires : goal.put_command-at-requires
 put_command-at-requires c =
-    let next-at = c.next_at in
-    let loop = c.loop-command in
-    let next = next-at.ensures in
-    let told = c.in-Taken.is in
-    record { low = (taken_fits _ _ next told).1; command_in_bounds = next_fits loop.invariant _ _ (at_taken _ _ next told) }
+    let told = c.in-Ok-Some.is ∙ ap (λ (o : Option _). Ok o) c.in-Ok-Some.field-0-is in
+    let fits = next_fits c.loop-taken.invariant _ (at_taken _ _ c.next_at.ensures told) in
+    record { low = (taken_fits _ _ c.next_at.ensures told).1; command_in_bounds = rw (part_long c.loop-taken.out c.loop-taken.at) (omega (arith, fits)) }
+
+pub overflow_add-at : goal.overflow_add-at
+overflow_add-at c =
+    let told = c.in-Ok-Some.is ∙ ap (λ (o : Option _). Ok o) c.in-Ok-Some.field-0-is in
+    let fits = next_fits c.loop-taken.invariant _ (at_taken _ _ c.next_at.ensures told) in
+    omega (arith, fits, c.put_command-at.ensures.value)
 
 pub walked-walk-requires : goal.walked-walk-requires
 walked-walk-requires c =
-    let next-at = c.next_at in
-    let fits = taken_fits _ _ next-at.ensures c.in-Taken.is in
+    let fits = taken_fits _ _ c.next_at.ensures (c.in-Ok-Some.is ∙ ap (λ (o : Option _). Ok o) c.in-Ok-Some.field-0-is) in
     omega (arith, fits.0)
 
-pub loop-command-smaller : goal.loop-command-smaller
-loop-command-smaller c =
-    let next-at = c.next_at in
-    let fits = taken_fits _ _ next-at.ensures c.in-Taken.is in
+pub loop-taken-smaller : goal.loop-taken-smaller
+loop-taken-smaller c =
+    let fits = taken_fits _ _ c.next_at.ensures (c.in-Ok-Some.is ∙ ap (λ (o : Option _). Ok o) c.in-Ok-Some.field-0-is) in
     rw c.walked-walk.ensures (omega (arith, fits.0))
 
-pub loop-command-preserved : goal.loop-command-preserved
-loop-command-preserved c =
-    let put-command = c.put_command-at in
-    let next-at = c.next_at in
-    let loop = c.loop-command in
-    let step = at_taken _ _ next-at.ensures c.in-Taken.is in
-    let put = put-command.ensures in
-    put_more loop.invariant _ _ step c.walked-walk.ensures put.out_after put.value
+pub loop-taken-preserved : goal.loop-taken-preserved
+loop-taken-preserved c =
+    let step = at_taken _ _ c.next_at.ensures (c.in-Ok-Some.is ∙ ap (λ (o : Option _). Ok o) c.in-Ok-Some.field-0-is) in
+    let fits = next_fits c.loop-taken.invariant _ step in
+    let put = c.put_command-at.ensures in
+    put_more c.loop-taken.invariant _ step c.walked-walk.ensures (part_put _ _ _ fits put.out_after) (ap (λ (n : ℕ). c.loop-taken.at + n) put.value)
 
-pub shape_of-out-in-End : goal.shape_of-out-in-End
-shape_of-out-in-End c = put_same c.loop-command.invariant
+pub returns-in_default : goal.returns-in_default
+returns-in_default c =
+    let none : c.in_default.field-0 ≡ None = cc in
+    ended_put c.loop-taken.invariant (at_end _ _ c.next_at.ensures (c.in_default.is ∙ ap (λ (o : Option _). Ok o) none))
 
-pub returns-in-End : goal.returns-in-End
-returns-in-End c =
-    let next-at = c.next_at in
-    let loop = c.loop-command in
-    let inv = loop.invariant in
-    ended_put inv (at_end _ _ next-at.ensures c.in-End.is)
-
-pub shape_of-out-in-Bad : goal.shape_of-out-in-Bad
-shape_of-out-in-Bad c = put_same c.loop-command.invariant
-
-pub returns-in-Bad : goal.returns-in-Bad
-returns-in-Bad c =
-    let next-at = c.next_at in
-    let loop = c.loop-command in
-    let inv = loop.invariant in
-    stopped_put inv (at_bad _ _ next-at.ensures c.in-Bad.is)
+pub returns-in_default-2 : goal.returns-in_default-2
+returns-in_default-2 c = stopped_put c.loop-taken.invariant (at_bad _ _ c.next_at.ensures c.in_default.is)

@@ -4,8 +4,8 @@ use lib.ListN.{length}
 use Rattle.log_vgm.proofs.Putting.{Putting}
 use Rattle.log_vgm.proofs.write.put_commands.Given as goal
 
-abbrev pub invariant-loop-command : goal.invariant-loop-command
-invariant-loop-command l = Putting l.vgm l.initial.walk l.initial.out l.place l.out l.walk l.at
+abbrev pub invariant-loop-taken : goal.invariant-loop-taken
+invariant-loop-taken l = Putting l.vgm l.initial.walk l.initial.out l.out l.walk l.at
 
-abbrev pub decreases-loop-command : goal.decreases-loop-command
-decreases-loop-command l = length l.vgm - l.walk.at
+abbrev pub decreases-loop-taken : goal.decreases-loop-taken
+decreases-loop-taken l = length l.vgm - l.walk.at

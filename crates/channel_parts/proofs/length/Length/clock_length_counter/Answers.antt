@@ -5,7 +5,7 @@ use Rattle.channel_parts.proofs.length.Length.clock_length_counter.Goals as goal
 
 pub returns-then-self : goal.returns-then-self
 unfolding pick clocked
-returns-then-self c = rw (c.if-self.true, c.saturating_sub16.ensures)
+returns-then-self c = rw (c.if-self.true, c.saturating_sub.ensures)
 
 pub returns-else-self : goal.returns-else-self
 unfolding pick clocked

@@ -7,8 +7,8 @@ use Rattle.channel_parts.proofs.length.Length.trigger_length.Goals as goal
 pub returns-then-self-eq0 : goal.returns-then-self-eq0
 unfolding triggered pick
 returns-then-self-eq0 c =
-    let less = c.saturating_sub16 in
-    let flag = c.flag16 in
+    let less = c.saturating_sub in
+    let flag = c.flag in
     rw (eq-eqb _ _ c.if-self-eq0.true, less.ensures, flag.ensures.value)
 
 pub returns-else-self-eq0 : goal.returns-else-self-eq0

@@ -2,4 +2,4 @@
 use Rattle.channel_parts.proofs.length.Length.write_sound_length.Goals as goal
 
 pub returns : goal.returns
-returns c = rw c.saturating_sub16-length.ensures
+returns c = rw c.saturating_sub-length.ensures

@@ -9,6 +9,6 @@ pub returns : goal.returns
 returns c =
     let a = c.args in
     let run = c.count_near-run in
-    let clocks = c.flag32.ensures.value in
+    let clocks = c.flag.ensures.value in
     pulse_phase_either a.triggered a.self a.reload a.n run.result c.requires.pulse_phase_held
     (run.ensures.value ∙ ap (counted_down a.self.frequency_timer (a.reload + 1)) clocks)

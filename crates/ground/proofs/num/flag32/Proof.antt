@@ -1,7 +1,0 @@
--- Each way out is the case of `pick` that the test takes. Assumes nothing.
-use Rattle.ground.proofs.Cases.{cases}
-use Rattle.ground.proofs.num.flag32.Statement.{statement}
-use Rattle.ground.proofs.num.flag32.Tie as tie
-
-pub flag32_spec : {M : Type 1} → statement M
-flag32_spec = tie.close (tie.spec (λ c. search cases) (λ c. search cases))
