@@ -1,19 +1,17 @@
 -- The record at a place: where its body ends, and the write to one group's registers that it may be. For the code of `play_list` and its proof alone: what a
 -- record does is said in Playing.antt. Assumes nothing.
-use Rattle.std.specs.Prelude.{ℕ, ◌+◌, ◌-◌, Bool, true, false, ◌&&◌, List, eqb, ltb, length, get_or, Ok, Err}
+use Rattle.std.specs.Prelude.{ℕ, ◌+◌, ◌-◌, Bool, ◌&&◌, List, eqb, ltb, length, get_or, Option, Some, None, Ok, Err}
 use Rattle.ground.specs.Pick.{pick}
-use Rattle.log_records.specs.declared.cut.Cut.{Cut}
-use Rattle.log_records.specs.declared.cut.Cut.TheVariants.{End, Short, Body}
+use Rattle.log_records.specs.Records.{Cut}
 use Rattle.log_records.specs.Judge.{Judged, word}
 use Rattle.log_records.specs.declared.judge.Record.TheVariants.{Write, Read, Clock, Pcm}
-use Rattle.log_player.specs.declared.body.Part.{Part}
 use Rattle.log_player.specs.declared.body.GroupWrite.{GroupWrite}
 
--- "two length bytes, big-endian, and the body of that many bytes": a whole record, or none
-abbrev pub part_of : ℕ → Cut → Part
-part_of at End = record { there = false; end = 0 }
-part_of at Short = record { there = false; end = 0 }
-part_of at (Body n) = record { there = true; end = at + 2 + n }
+-- "two length bytes, big-endian, and the body of that many bytes": the place after a whole record, or none
+abbrev pub part_of : ℕ → Cut → Option ℕ
+part_of at (Ok None) = None
+part_of at (Err fault) = None
+part_of at (Ok (Some n)) = Some (at + 2 + n)
 
 abbrev pub no_write : GroupWrite
 no_write = record { group = 0; offset = 0; value = 0 }

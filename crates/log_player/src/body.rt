@@ -3,32 +3,16 @@ ghost use Rattle.std.specs.Prelude.{◌≡◌};
 ghost use Rattle.log_records.specs.Records.{cut_at};
 ghost use Rattle.log_player.specs.Bodies.{part_of, no_write, group_at, group_write_in};
 
-use log_records::cut::{Cut, cut_at};
+use log_records::cut::{CutShort, cut_at};
 use log_records::judge::word_at;
 
-// Whether a whole record is there, and the place after it.
-#[derive(Clone, Copy)]
-pub struct Part {
-    pub there: bool,
-    pub end: usize,
-}
-
-pub fn part_at(log: &[u8], at: usize) -> Part
+// The place after the record at a place, if a whole one is there.
+pub fn part_at(log: &[u8], at: usize) -> Option<usize>
     ensures { result ≡ part_of at (cut_at log.now at) }
 {
     match cut_at(log, at) {
-        Cut::End => Part {
-            there: false,
-            end: 0,
-        },
-        Cut::Short => Part {
-            there: false,
-            end: 0,
-        },
-        Cut::Body { len } => Part {
-            there: true,
-            end: at + 2 + len,
-        },
+        Ok(Some(len)) => Some(at + 2 + len),
+        Ok(None) | Err(CutShort) => None,
     }
 }
 

@@ -202,52 +202,42 @@ loop-apu-preserved-else-r c =
     paid_on loop.invariant k unit (ap (λ (x : Parts). x.at) ran.is) ran.bytes
 
 -- ---- a record
-pub shape_of-out-then-not-part : goal.shape_of-out-then-not-part
-shape_of-out-then-not-part c =
+pub shape_of-out-in_default : goal.shape_of-out-in_default
+shape_of-out-in_default c =
     let loop = c.loop-apu in
     loop.invariant.going.same
 
-pub returns-then-not-part : goal.returns-then-not-part
-returns-then-not-part c =
-    let if5 = c.if-not-part in
-    let part_at = c.part_at-part in
+pub returns-in_default : goal.returns-in_default
+returns-in_default c =
     let if2 = c.if-r-ne0 in
     let reckon = c.reckon-r in
     let loop = c.loop-apu in
     let z = if2.false in
-    let both = over loop.invariant reckon.ensures.reckons z (reckon.ensures.idle z) (part_none _ _ _ part_at.ensures if5.true) in
+    let both = over loop.invariant reckon.ensures.reckons z (reckon.ensures.idle z) (part_none _ _ _ c.part_at.ensures c.in_default.not-Some) in
     record { value = both.0; out_after = both.1.0; still_held = both.1.1 }
 
 pub overflow_add-from : goal.overflow_add-from
 overflow_add-from c =
-    let if5 = c.if-not-part in
-    let part_at = c.part_at-part in
     let reckon = c.reckon-r in
-    let lies = part_some c.args.version c.args.log.now reckon.result.at part_at.ensures if5.false in
+    let lies = part_some c.args.version c.args.log.now reckon.result.at (sym c.in-Some.ensures) in
     omega (arith, lies.from, lies.fits, c.well_formed)
 
 pub slice_bounds-body-count : goal.slice_bounds-body-count
 slice_bounds-body-count c =
-    let if5 = c.if-not-part in
-    let part_at = c.part_at-part in
     let reckon = c.reckon-r in
-    let lies = part_some c.args.version c.args.log.now reckon.result.at part_at.ensures if5.false in
+    let lies = part_some c.args.version c.args.log.now reckon.result.at (sym c.in-Some.ensures) in
     omega (arith, lies.from, lies.fits, c.well_formed)
 
 pub slice_bounds-body-start : goal.slice_bounds-body-start
 slice_bounds-body-start c =
-    let if5 = c.if-not-part in
-    let part_at = c.part_at-part in
     let reckon = c.reckon-r in
-    let lies = part_some c.args.version c.args.log.now reckon.result.at part_at.ensures if5.false in
+    let lies = part_some c.args.version c.args.log.now reckon.result.at (sym c.in-Some.ensures) in
     omega (arith, lies.from, lies.fits, c.well_formed)
 
 pub slice_bounds-body-end : goal.slice_bounds-body-end
 slice_bounds-body-end c =
-    let if5 = c.if-not-part in
-    let part_at = c.part_at-part in
     let reckon = c.reckon-r in
-    let lies = part_some c.args.version c.args.log.now reckon.result.at part_at.ensures if5.false in
+    let lies = part_some c.args.version c.args.log.now reckon.result.at (sym c.in-Some.ensures) in
     omega (arith, lies.from, lies.fits, c.well_formed)
 
 pub next_position-requires-else-r-ne0 : goal.next_position-requires-else-r-ne0
@@ -263,11 +253,9 @@ write-apu-requires c =
 
 pub loop-apu-smaller-in-1 : goal.loop-apu-smaller-in-1
 loop-apu-smaller-in-1 c =
-    let if5 = c.if-not-part in
-    let part_at = c.part_at-part in
     let if2 = c.if-r-ne0 in
     let reckon = c.reckon-r in
-    let lies = part_some c.args.version c.args.log.now reckon.result.at part_at.ensures if5.false in
+    let lies = part_some c.args.version c.args.log.now reckon.result.at (sym c.in-Some.ensures) in
     let idle = reckon.ensures.idle if2.false in
     omega (arith, ahead_next lies idle.0, reckon.ensures.reckons.less)
 
@@ -276,12 +264,10 @@ loop-apu-preserved-in-1 c =
     let write = c.write-apu in
     let next-position2 = c.next_position-else-r-ne0 in
     let group-write = c.group_write-write in
-    let if5 = c.if-not-part in
-    let part_at = c.part_at-part in
     let if2 = c.if-r-ne0 in
     let reckon = c.reckon-r in
     let loop = c.loop-apu in
-    let lies = part_some c.args.version c.args.log.now reckon.result.at part_at.ensures if5.false in
+    let lies = part_some c.args.version c.args.log.now reckon.result.at (sym c.in-Some.ensures) in
     let k = reckon.ensures.reckons in
     let z = if2.false in
     let w = group-write.result in
@@ -298,11 +284,9 @@ write-apu-requires-in-2 c =
 
 pub loop-apu-smaller-in-2 : goal.loop-apu-smaller-in-2
 loop-apu-smaller-in-2 c =
-    let if5 = c.if-not-part in
-    let part_at = c.part_at-part in
     let if2 = c.if-r-ne0 in
     let reckon = c.reckon-r in
-    let lies = part_some c.args.version c.args.log.now reckon.result.at part_at.ensures if5.false in
+    let lies = part_some c.args.version c.args.log.now reckon.result.at (sym c.in-Some.ensures) in
     let idle = reckon.ensures.idle if2.false in
     omega (arith, ahead_next lies idle.0, reckon.ensures.reckons.less)
 
@@ -311,12 +295,10 @@ loop-apu-preserved-in-2 c =
     let write2 = c.write-apu-in-2 in
     let next-position2 = c.next_position-else-r-ne0 in
     let group-write = c.group_write-write in
-    let if5 = c.if-not-part in
-    let part_at = c.part_at-part in
     let if2 = c.if-r-ne0 in
     let reckon = c.reckon-r in
     let loop = c.loop-apu in
-    let lies = part_some c.args.version c.args.log.now reckon.result.at part_at.ensures if5.false in
+    let lies = part_some c.args.version c.args.log.now reckon.result.at (sym c.in-Some.ensures) in
     let k = reckon.ensures.reckons in
     let z = if2.false in
     let w = group-write.result in
@@ -333,11 +315,9 @@ write-apu-requires-in-3 c =
 
 pub loop-apu-smaller-in-3 : goal.loop-apu-smaller-in-3
 loop-apu-smaller-in-3 c =
-    let if5 = c.if-not-part in
-    let part_at = c.part_at-part in
     let if2 = c.if-r-ne0 in
     let reckon = c.reckon-r in
-    let lies = part_some c.args.version c.args.log.now reckon.result.at part_at.ensures if5.false in
+    let lies = part_some c.args.version c.args.log.now reckon.result.at (sym c.in-Some.ensures) in
     let idle = reckon.ensures.idle if2.false in
     omega (arith, ahead_next lies idle.0, reckon.ensures.reckons.less)
 
@@ -346,12 +326,10 @@ loop-apu-preserved-in-3 c =
     let write3 = c.write-apu-in-3 in
     let next-position2 = c.next_position-else-r-ne0 in
     let group-write = c.group_write-write in
-    let if5 = c.if-not-part in
-    let part_at = c.part_at-part in
     let if2 = c.if-r-ne0 in
     let reckon = c.reckon-r in
     let loop = c.loop-apu in
-    let lies = part_some c.args.version c.args.log.now reckon.result.at part_at.ensures if5.false in
+    let lies = part_some c.args.version c.args.log.now reckon.result.at (sym c.in-Some.ensures) in
     let k = reckon.ensures.reckons in
     let z = if2.false in
     let w = group-write.result in
@@ -368,11 +346,9 @@ write-apu-requires-in-4 c =
 
 pub loop-apu-smaller-in-4 : goal.loop-apu-smaller-in-4
 loop-apu-smaller-in-4 c =
-    let if5 = c.if-not-part in
-    let part_at = c.part_at-part in
     let if2 = c.if-r-ne0 in
     let reckon = c.reckon-r in
-    let lies = part_some c.args.version c.args.log.now reckon.result.at part_at.ensures if5.false in
+    let lies = part_some c.args.version c.args.log.now reckon.result.at (sym c.in-Some.ensures) in
     let idle = reckon.ensures.idle if2.false in
     omega (arith, ahead_next lies idle.0, reckon.ensures.reckons.less)
 
@@ -381,12 +357,10 @@ loop-apu-preserved-in-4 c =
     let write4 = c.write-apu-in-4 in
     let next-position2 = c.next_position-else-r-ne0 in
     let group-write = c.group_write-write in
-    let if5 = c.if-not-part in
-    let part_at = c.part_at-part in
     let if2 = c.if-r-ne0 in
     let reckon = c.reckon-r in
     let loop = c.loop-apu in
-    let lies = part_some c.args.version c.args.log.now reckon.result.at part_at.ensures if5.false in
+    let lies = part_some c.args.version c.args.log.now reckon.result.at (sym c.in-Some.ensures) in
     let k = reckon.ensures.reckons in
     let z = if2.false in
     let w = group-write.result in
@@ -398,12 +372,10 @@ loop-apu-preserved-in-4 c =
 
 pub play_record-q-requires : goal.play_record-q-requires
 play_record-q-requires c =
-    let if5 = c.if-not-part in
-    let part_at = c.part_at-part in
     let if2 = c.if-r-ne0 in
     let reckon = c.reckon-r in
     let loop = c.loop-apu in
-    let lies = part_some c.args.version c.args.log.now reckon.result.at part_at.ensures if5.false in
+    let lies = part_some c.args.version c.args.log.now reckon.result.at (sym c.in-Some.ensures) in
     let k = reckon.ensures.reckons in
     let z = if2.false in
     let ready = b_ready loop.invariant k in
@@ -411,23 +383,19 @@ play_record-q-requires c =
 
 pub loop-apu-smaller : goal.loop-apu-smaller
 loop-apu-smaller c =
-    let if5 = c.if-not-part in
-    let part_at = c.part_at-part in
     let if2 = c.if-r-ne0 in
     let reckon = c.reckon-r in
-    let lies = part_some c.args.version c.args.log.now reckon.result.at part_at.ensures if5.false in
+    let lies = part_some c.args.version c.args.log.now reckon.result.at (sym c.in-Some.ensures) in
     let idle = reckon.ensures.idle if2.false in
     omega (arith, ahead_next lies idle.0, reckon.ensures.reckons.less)
 
 pub loop-apu-preserved : goal.loop-apu-preserved
 loop-apu-preserved c =
     let play-record = c.play_record-q in
-    let if5 = c.if-not-part in
-    let part_at = c.part_at-part in
     let if2 = c.if-r-ne0 in
     let reckon = c.reckon-r in
     let loop = c.loop-apu in
-    let lies = part_some c.args.version c.args.log.now reckon.result.at part_at.ensures if5.false in
+    let lies = part_some c.args.version c.args.log.now reckon.result.at (sym c.in-Some.ensures) in
     let k = reckon.ensures.reckons in
     let z = if2.false in
     let played = play-record.ensures in
