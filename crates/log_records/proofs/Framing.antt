@@ -11,7 +11,7 @@ use Rattle.std.specs.Prelude.{Ok, Some, None}
 use Rattle.ground.specs.Pick.{pick}
 use Rattle.log_records.specs.declared.judge.Record.TheVariants.{Clock}
 use Rattle.log_records.specs.declared.judge.Clocks.{Clocks}
-use Rattle.log_records.specs.Judge.{Judged, word, clock_length, judge_of, no_clocks, clocks_of}
+use Rattle.log_records.specs.Judge.{Judged, word, clock_length, judge_of, clocks_of}
 use Rattle.log_records.specs.Records.{cut_off, done, short, item, cut_at, body_at, clocks_at, clock_end, grow, records_from, records_step, unrolled}
 use Rattle.log_records.proofs.Judged.{clock_long, clock_is, clock_ends, clocks_few}
 
@@ -95,9 +95,9 @@ pub record Stands (v : ℕ) (s : List ℕ) (at : ℕ) (c : Clocks) : Type 0 wher
   pub few : c.count ≤ 16384
   pub is : records_from v s at ≡ item at (Ok (Clock c.double c.divider c.count)) (records_from v s (clock_end v at))
 
-pub clocks_stand : (v : ℕ) (s : List ℕ) (at : ℕ) → (clocks_at v s at).right ≡ true → Stands v s at (clocks_at v s at)
+pub clocks_stand : (v : ℕ) (s : List ℕ) (at : ℕ) {c : Clocks} → clocks_at v s at ≡ Some c → Stands v s at c
 unfolding clocks_at pick
-clocks_stand v s at = go (leb (at + 2 + n) (length s)) (eqb (word s at) n) refl refl
+clocks_stand v s at {c} = go (leb (at + 2 + n) (length s)) (eqb (word s at) n) refl refl
   where
     n : ℕ
     n = clock_length v
@@ -106,7 +106,7 @@ clocks_stand v s at = go (leb (at + 2 + n) (length s)) (eqb (word s at) n) refl 
     body = body_at s at n
 
     go : (a b : Bool) → leb (at + 2 + n) (length s) ≡ a → eqb (word s at) n ≡ b
-        → let c = pick a (pick b (clocks_of (clock_end v at) (judge_of v body)) no_clocks) no_clocks in c.right ≡ true → Stands v s at c
+        → pick a (pick b (clocks_of (clock_end v at) (judge_of v body)) None) None ≡ Some c → Stands v s at c
     go true true x y e =
         let fits = leb-true (at + 2 + n) (length s) x in
         let few = clocks_few (clock_end v at) v body e in

@@ -5,7 +5,7 @@ use Rattle.std.proofs.Common.{arith, le-leb}
 use Rattle.ground.specs.Pick.{pick}
 use Rattle.log_records.specs.declared.judge.Clocks.{Clocks}
 use Rattle.log_records.specs.declared.cut.CutShort.{CutShort}
-use Rattle.log_records.specs.Judge.{Judged, word, clock_length, judge_of, no_clocks, clocks_of}
+use Rattle.log_records.specs.Judge.{Judged, word, clock_length, judge_of, clocks_of}
 
 -- how a log goes on: with a body of so many bytes, not at all, or with a record cut short
 abbrev pub Cut : Type 0
@@ -29,11 +29,11 @@ body_at s at n = take n (drop (at + 2) s)
 abbrev pub clock_end : ℕ → ℕ → ℕ
 clock_end version at = at + 2 + clock_length version
 
-unfoldable pub clocks_at : ℕ → List ℕ → ℕ → Clocks
+unfoldable pub clocks_at : ℕ → List ℕ → ℕ → Option Clocks
 clocks_at version s at =
     let n = clock_length version in
-    pick (leb (clock_end version at) (length s)) (pick (eqb (word s at) n) (clocks_of (clock_end version at) (judge_of version (body_at s at n))) no_clocks)
-    no_clocks
+    pick (leb (clock_end version at) (length s)) (pick (eqb (word s at) n) (clocks_of (clock_end version at) (judge_of version (body_at s at n))) None)
+    None
 
 -- the records in order, each with the place of its first length byte; the row ends where the log does, or at a record cut short
 pub data Parsed : Type 0 where

@@ -106,8 +106,7 @@ pub fn scan_list(version: u8, log: &[u8]) -> Found
     let mut found = Found::default();
     let mut at: usize = 2;
     loop {
-        let clocks = clocks_at(version, log, at);
-        if clocks.right {
+        if let Some(clocks) = clocks_at(version, log, at) {
             found.sums = add(found.sums, one_clock(clocks.double, clocks.count));
             at = clocks.end;
         } else {
