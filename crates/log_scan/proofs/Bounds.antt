@@ -15,12 +15,10 @@ use Rattle.ground.proofs.Cases.{pick_holds, both_ways, and_right}
 use Rattle.log_records.specs.declared.divider.Divider.{Divider}
 use Rattle.log_records.specs.Divider.{phase_of}
 use Rattle.log_records.specs.declared.judge.Record.TheVariants.{Clock}
-use Rattle.log_records.specs.declared.cut.Cut.{Cut}
-use Rattle.log_records.specs.declared.cut.Cut.TheVariants.{End, Short, Body}
 use Rattle.log_scan.specs.declared.answer.LogAnswer.{LogAnswer}
 use Rattle.log_scan.specs.declared.answer.LogAnswer.TheVariants.{Done, TooLong, BadStart, WrongRecord, TooShort}
 use Rattle.log_records.specs.Judge.{Judged, wrong, word, write_of, read_of, divider_in, count_in, fair_of, clock_of, pcm_of, judge_of}
-use Rattle.log_records.specs.Records.{Parsed, cut_at, body_at, grow, parse, records_from, unrolled, listed_as, version_of, records_of}
+use Rattle.log_records.specs.Records.{Cut, cut_off, Parsed, cut_at, body_at, grow, parse, records_from, unrolled, listed_as, version_of, records_of}
 use Rattle.log_scan.specs.Sums.{asks, halves_of, read_bytes_of, sum_of}
 use Rattle.log_scan.specs.Scan.{wrong_mark, wrong_in, summed}
 use Rattle.log_scan.specs.Answers.{refusal_of, returned_of, bytes_by, or_wrong, scanned_as, scanned_from, within_room, Small}
@@ -77,9 +75,9 @@ module _ (v : ℕ) (f : Judged → ℕ) (m : ℕ) (low : (s : List ℕ) → f (j
   first_low : (s : List ℕ) (at : ℕ) (rest : ℕ → Parsed) (k : Cut) → cut_at s at ≡ k
       → ((n : ℕ) → sum_of f (unrolled (rest (at + 2 + n))) ≤ m * (length s - (at + 2 + n))) → sum_of f (unrolled (grow v s at rest k)) ≤ m * (length s - at)
   unfolding sum_of
-  first_low s at rest End e h = omega arith
-  first_low s at rest Short e h = omega arith
-  first_low s at rest (Body k) e h =
+  first_low s at rest (Ok None) e h = omega arith
+  first_low s at rest (Err fault) e h = omega arith
+  first_low s at rest (Ok (Some k)) e h =
       let b = body_fits s at k e in
       more _ _ (length s - at) (length s - (at + 2 + k)) (low (body_at s at k)) (h k) (omega arith)
 
@@ -123,12 +121,12 @@ module _ (v : ℕ) (s : List ℕ) (h : length s ≤ 65536) where
 -- ---- the number returned stays in 48 bits
 
 -- where a record is cut short, the log has not ended
-short_inside : (s : List ℕ) (at : ℕ) → cut_at s at ≡ Short → at ≤ length s
+short_inside : (s : List ℕ) (at : ℕ) → cut_at s at ≡ cut_off → at ≤ length s
 unfolding pick cut_at
 short_inside s at e = go (leb (length s) at) refl e
   where
     go : (a : Bool) → leb (length s) at ≡ a
-        → pick a End (pick (ltb (length s - at) 2) Short (pick (ltb (length s - at - 2) (word s at)) Short (Body (word s at)))) ≡ Short
+        → pick a (Ok None) (pick (ltb (length s - at) 2) cut_off (pick (ltb (length s - at - 2) (word s at)) cut_off (Ok (Some (word s at))))) ≡ cut_off
         → at ≤ length s
     go true x h = let f : ◌≡◌ {A = ℕ} 0 1 = cc in omega arith
     go false x h = le_of_lt (leb-false (length s) at x)
@@ -149,9 +147,9 @@ mark_inside top place (Err fault) h = h
 first_inside : (v : ℕ) (s : List ℕ) (at : ℕ) (rest : ℕ → Parsed) (k : Cut) → cut_at s at ≡ k
     → ((n : ℕ) → Inside (length s) (wrong_in (rest (at + 2 + n)))) → Inside (length s) (wrong_in (grow v s at rest k))
 unfolding wrong_in
-first_inside v s at rest End e h = omega arith
-first_inside v s at rest Short e h = short_inside s at e
-first_inside v s at rest (Body n) e h =
+first_inside v s at rest (Ok None) e h = omega arith
+first_inside v s at rest (Err fault) e h = short_inside s at e
+first_inside v s at rest (Ok (Some n)) e h =
     let b = body_fits s at n e in
     let r = judge_of v (body_at s at n) in
     or_inside (length s) (wrong_mark at r) (wrong_in (rest (at + 2 + n))) (mark_inside (length s) at r (omega arith)) (h n)

@@ -8,7 +8,7 @@ use frame::pattern::pattern;
 use log_items::items::{FRAME, PCM, READ};
 use log_player::log::start_byte;
 use log_player::play::start;
-use log_records::cut::{Cut, cut_at, version_of};
+use log_records::cut::{CutShort, cut_at, version_of};
 use log_records::divider::{Divider, divider_at};
 use log_records::judge::{Record, WrongRecord, judge};
 
@@ -158,13 +158,13 @@ fn play_records(p: Play, version: u8, log: &[u8], out: &mut [u8]) -> usize
     let mut at: usize = 2;
     loop {
         match cut_at(log, at) {
-            Cut::End => {
+            Ok(None) => {
                 return q.at;
             }
-            Cut::Short => {
+            Err(CutShort) => {
                 return NOWHERE;
             }
-            Cut::Body { len } => {
+            Ok(Some(len)) => {
                 let from = at + 2;
                 let to = from + len;
                 q = play_record(q, version, &log[from..to], out);

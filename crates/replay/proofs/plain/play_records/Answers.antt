@@ -7,25 +7,25 @@ use Rattle.replay.proofs.plain.play_records.Goals as goal
 pub loop-len-init : goal.loop-len-init
 loop-len-init c = record { held = c.requires; same = refl }
 
-pub shape_of-out-in-End : goal.shape_of-out-in-End
-shape_of-out-in-End c =
+pub shape_of-out-in-Ok-None : goal.shape_of-out-in-Ok-None
+shape_of-out-in-Ok-None c =
     let loop = c.loop-len in
     loop.invariant.same
 
-pub shape_of-out-in-Short : goal.shape_of-out-in-Short
-shape_of-out-in-Short c =
+pub shape_of-out-in-Err : goal.shape_of-out-in-Err
+shape_of-out-in-Err c =
     let loop = c.loop-len in
     loop.invariant.same
 
 pub overflow_add-from : goal.overflow_add-from
 overflow_add-from c =
-    let fits = body_fits _ c.loop-len.at _ (sym c.cut_at.ensures ∙ c.in-Body.is) in
+    let fits = body_fits _ c.loop-len.at _ (sym (rw c.in-Ok-Some.field-0-is at c.in-Ok-Some.ensures)) in
     let long = c.well_formed.1.1.0.0 in
     omega (arith, fits, long)
 
 pub overflow_add-to : goal.overflow_add-to
 overflow_add-to c =
-    let fits = body_fits _ c.loop-len.at _ (sym c.cut_at.ensures ∙ c.in-Body.is) in
+    let fits = body_fits _ c.loop-len.at _ (sym (rw c.in-Ok-Some.field-0-is at c.in-Ok-Some.ensures)) in
     let long = c.well_formed.1.1.0.0 in
     omega (arith, fits, long)
 
@@ -37,7 +37,7 @@ slice_bounds-play_record-start c = omega arith
 
 pub slice_bounds-play_record-end : goal.slice_bounds-play_record-end
 slice_bounds-play_record-end c =
-    let fits = body_fits _ c.loop-len.at _ (sym c.cut_at.ensures ∙ c.in-Body.is) in
+    let fits = body_fits _ c.loop-len.at _ (sym (rw c.in-Ok-Some.field-0-is at c.in-Ok-Some.ensures)) in
     omega arith
 
 pub play_record-q-requires : goal.play_record-q-requires
@@ -47,7 +47,7 @@ play_record-q-requires c =
 
 pub loop-len-smaller : goal.loop-len-smaller
 loop-len-smaller c =
-    let fits = body_fits _ c.loop-len.at _ (sym c.cut_at.ensures ∙ c.in-Body.is) in
+    let fits = body_fits _ c.loop-len.at _ (sym (rw c.in-Ok-Some.field-0-is at c.in-Ok-Some.ensures)) in
     omega arith
 
 pub loop-len-preserved : goal.loop-len-preserved
