@@ -22,8 +22,8 @@ fn print_refused(refusal: u64, number: u64) {
 }
 
 fn write_log(log: &[u8], length: usize) {
-    if length <= log.len() {
-        io::write_all(1, &log[..length]);
+    if let Some(bytes) = log.get(..length) {
+        io::write_all(1, bytes);
     }
 }
 
