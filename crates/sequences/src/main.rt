@@ -8,8 +8,8 @@ ghost use Rattle.std.specs.Prelude.{◌+◌, ◌<◌};
 ghost use Rattle.apu.specs.Held.{Held};
 
 use apu::Apu;
-use apu::registers::{Read, Write};
-use apu_clock::clock::{Answer, clock};
+use apu::registers::WrongAddress;
+use apu_clock::clock::{NoRoom, clock};
 use text::{print_frame, print_pcm, print_read, print_refused, print_start};
 
 // One clock call, whose frame is printed where it makes one.
@@ -33,14 +33,12 @@ fn show_clock(unit: Apu, double: bool, divider: u8) -> Apu
         &mut noise,
         &mut all,
     );
-    let answer = clocked.answer;
-    let next = clocked.apu;
-    match answer {
-        Answer::Nothing => {}
-        Answer::Frame => print_frame(&pulse1, &pulse2, &wave, &noise, &all),
-        Answer::NoRoom => print_refused(),
+    match clocked.answer {
+        Ok(true) => print_frame(&pulse1, &pulse2, &wave, &noise, &all),
+        Ok(false) => {}
+        Err(NoRoom) => print_refused(),
     }
-    next
+    clocked.apu
 }
 
 // So many clock calls with one divider.
@@ -49,10 +47,8 @@ fn show_clocks(unit: Apu, double: bool, divider: u8, count: u16) -> Apu
     ensures { Held result }
 {
     let mut next = unit;
-    let mut left = count;
-    while 0 < left {
+    for _ in 0..count {
         next = show_clock(next, double, divider);
-        left -= 1;
     }
     next
 }
@@ -74,20 +70,16 @@ fn show_write(unit: Apu, addr: u16, value: u8) -> Apu
     ensures { Held result }
 {
     let written = unit.write_register(addr, value);
-    let answer = written.answer;
-    let next = written.apu;
-    match answer {
-        Write::Done => {}
-        Write::WrongAddress => print_refused(),
+    if let Err(WrongAddress) = written.answer {
+        print_refused();
     }
-    next
+    written.apu
 }
 
 fn show_read(unit: Apu, addr: u16) {
-    let answer = unit.read_register(addr);
-    match answer {
-        Read::Byte(b) => print_read(addr, b),
-        Read::WrongAddress => print_refused(),
+    match unit.read_register(addr) {
+        Ok(b) => print_read(addr, b),
+        Err(WrongAddress) => print_refused(),
     }
 }
 
@@ -122,16 +114,8 @@ fn main() {
     let mut bytes = io::large_buffer();
     let n = io::read_full(0, &mut bytes);
     let mut unit = Apu::new(true);
-    let mut at: usize = 0;
-    while at + 5 <= n {
-        unit = show(
-            unit,
-            bytes[at],
-            bytes[at + 1],
-            bytes[at + 2],
-            bytes[at + 3],
-            bytes[at + 4],
-        );
-        at += 5;
+    let (commands, _) = bytes[..n].as_chunks::<5>();
+    for &[command, a, b, c, d] in commands {
+        unit = show(unit, command, a, b, c, d);
     }
 }
