@@ -1,8 +1,8 @@
 // A log played on the unit itself: each clock call by itself, as the rules state it, with the divider that this call sees.
 ghost use Rattle.apu.specs.Held.{Held};
 
-use apu::registers::Read;
-use apu_clock::clock::{Answer, clock};
+use apu::registers::WrongAddress;
+use apu_clock::clock::{NoRoom, clock};
 use apu_run::calls::Play;
 use frame::pattern::pattern;
 use log_items::items::{FRAME, PCM, READ};
@@ -56,13 +56,13 @@ fn put_frame(
     put_sides(out, fifth, all)
 }
 
-fn put_read(out: &mut [u8], at: usize, answer: Read) -> usize {
+fn put_read(out: &mut [u8], at: usize, answer: Result<u8, WrongAddress>) -> usize {
     match answer {
-        Read::Byte(b) => {
+        Ok(b) => {
             let next = put(out, at, READ);
             put(out, next, b)
         }
-        Read::WrongAddress => NOWHERE,
+        Err(WrongAddress) => NOWHERE,
     }
 }
 
@@ -94,14 +94,15 @@ fn play_call(p: Play, double: bool, divider: u8, out: &mut [u8]) -> Play
         &mut noise,
         &mut all,
     );
-    let answer = clocked.answer;
-    let apu = clocked.apu;
-    let at = match answer {
-        Answer::Nothing => p.at,
-        Answer::Frame => put_frame(out, p.at, &pulse1, &pulse2, &wave, &noise, &all),
-        Answer::NoRoom => NOWHERE,
+    let at = match clocked.answer {
+        Ok(true) => put_frame(out, p.at, &pulse1, &pulse2, &wave, &noise, &all),
+        Ok(false) => p.at,
+        Err(NoRoom) => NOWHERE,
     };
-    Play { apu, at }
+    Play {
+        apu: clocked.apu,
+        at,
+    }
 }
 
 // The calls of a clock record.
@@ -110,10 +111,8 @@ fn play_calls(p: Play, double: bool, divider: Divider, count: u16, out: &mut [u8
     ensures { Held result.apu }
 {
     let mut q = p;
-    let mut i: u16 = 0;
-    while i < count {
+    for i in 0..count {
         q = play_call(q, double, divider_at(divider, i as u32), out);
-        i += 1;
     }
     q
 }

