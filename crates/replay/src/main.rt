@@ -14,7 +14,7 @@ use compare::{digest_is, fill, starts_with, untouched};
 use expected::{Case, answer_is, bytes_after, case_of, written};
 use imported::import_is;
 use log_player::log::play_log;
-use log_scan::answer::LogAnswer;
+use log_scan::answer::{LogAnswer, LogRefusal};
 use plain::{NOWHERE, play_plainly};
 
 // Logs, bytes and differing logs of the family so far and of those before it; whether there is more to read.
@@ -129,7 +129,7 @@ fn answer_of(log: &[u8], length: usize, room: usize, out: &mut [u8]) -> LogAnswe
             return play_log(&log[..length], &mut out[..room]);
         }
     }
-    LogAnswer::TooLong
+    Err(LogRefusal::TooLong)
 }
 
 // How many bytes the log makes on the unit itself, in an output of so many bytes.

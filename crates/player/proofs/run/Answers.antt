@@ -1,11 +1,8 @@
--- The unit of the start byte is in its ranges, and so is what it has stored. Assumes nothing.
+-- What the unit of the start byte has stored is in its ranges. Assumes nothing.
 use Rattle.apu_clock.proofs.Demand3.{stored_held}
 use Rattle.player.proofs.run.Goals as goal
 
-pub meter_of-requires : goal.meter_of-requires
-meter_of-requires c = record { held = c.start-apu.ensures.held.0; floats_held = c.start-apu.ensures.held.1 }
-
-pub scan_from-answer-requires : goal.scan_from-answer-requires
-scan_from-answer-requires c =
+pub scan_from-requires : goal.scan_from-requires
+scan_from-requires c =
     let ranges = c.start-apu.ensures.held in
     rw c.meter_of.ensures (stored_held _ ranges.0 ranges.1)
