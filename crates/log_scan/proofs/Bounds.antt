@@ -15,13 +15,12 @@ use Rattle.ground.proofs.Cases.{pick_holds, both_ways, and_right}
 use Rattle.log_records.specs.declared.divider.Divider.{Divider}
 use Rattle.log_records.specs.Divider.{phase_of}
 use Rattle.log_records.specs.declared.judge.Record.TheVariants.{Clock}
-use Rattle.log_scan.specs.declared.answer.LogAnswer.{LogAnswer}
-use Rattle.log_scan.specs.declared.answer.LogAnswer.TheVariants.{Done, TooLong, BadStart, WrongRecord, TooShort}
+use Rattle.log_scan.specs.declared.answer.LogRefusal.TheVariants.{TooLong, BadStart, WrongRecord, TooShort}
 use Rattle.log_records.specs.Judge.{Judged, wrong, word, write_of, read_of, divider_in, count_in, fair_of, clock_of, pcm_of, judge_of}
 use Rattle.log_records.specs.Records.{Cut, cut_off, Parsed, cut_at, body_at, grow, parse, records_from, unrolled, listed_as, version_of, records_of}
 use Rattle.log_scan.specs.Sums.{asks, halves_of, read_bytes_of, sum_of}
 use Rattle.log_scan.specs.Scan.{wrong_mark, wrong_in, summed}
-use Rattle.log_scan.specs.Answers.{refusal_of, returned_of, bytes_by, or_wrong, scanned_as, scanned_from, within_room, Small}
+use Rattle.log_scan.specs.Answers.{LogAnswer, refusal_of, returned_of, bytes_by, or_wrong, scanned_as, scanned_from, within_room, Small}
 use Rattle.clocks.specs.Calls.{K}
 use Rattle.clocks.specs.Metered.{Held}
 use Rattle.clocks.specs.declared.meter.Meter.{Meter}
@@ -165,11 +164,8 @@ Packs a = returned_of a < 2 ^ 48
 
 room_packs : (room : ℕ) (a : LogAnswer) → Packs a → Packs (within_room room a)
 unfolding within_room
-room_packs room (Done w f k r) h = both_ways Packs _ h h
-room_packs room TooLong h = h
-room_packs room BadStart h = h
-room_packs room (WrongRecord p) h = h
-room_packs room (TooShort n) h = h
+room_packs room (Ok played) h = both_ways Packs _ h h
+room_packs room (Err r) h = h
 
 wrong_packs : (top : ℕ) (m : Option ℕ) (a : LogAnswer) → top ≤ 65536 → Inside top m → Packs a → Packs (or_wrong m a)
 wrong_packs top None a t i h = h
@@ -188,8 +184,8 @@ pub answer_packs : (m : Meter) → Held K m → (room : ℕ) (s : List ℕ) → 
 answer_packs m k room s = room_packs room (scanned_from m s) (scanned_packs m k s)
 
 pub refusal_le : (a : LogAnswer) → refusal_of a ≤ 6
-refusal_le (Done w f k r) = omega arith
-refusal_le TooLong = omega arith
-refusal_le BadStart = omega arith
-refusal_le (WrongRecord p) = omega arith
-refusal_le (TooShort n) = omega arith
+refusal_le (Ok played) = omega arith
+refusal_le (Err TooLong) = omega arith
+refusal_le (Err BadStart) = omega arith
+refusal_le (Err (WrongRecord p)) = omega arith
+refusal_le (Err (TooShort n)) = omega arith
