@@ -8,6 +8,7 @@ use Rattle.channel_wave.specs.Wave as wave
 use Rattle.channel_wave.specs.Phase.{WavePhaseHeld, wave_phase_of, with_wave_phase, wave_phase_clocked}
 use Rattle.channel_noise.specs.Noise as noise
 use Rattle.channel_noise.specs.Phase.{NoisePhaseHeld, noise_phase_of, with_noise_phase, noise_phase_clocked}
+use Rattle.channel_groups.specs.declared.group.Group.{Group}
 use Rattle.channel_groups.specs.PulseGroups.{PulseGroup}
 use Rattle.channel_groups.specs.WaveGroups.{WaveGroup}
 use Rattle.channel_groups.specs.NoiseGroups.{NoiseGroup}
@@ -102,15 +103,19 @@ phases_clocked s m =
     })
     m
 
+-- a group with another converter and another channel
+abbrev pub group_with : {C : Type 0} → Group C → Converter → C → Group C
+group_with g d c = record { converter = d; length = g.length; channel = c }
+
 -- a group with another converter, and with what moves as given
 abbrev pub pulse_with : PulseGroup → Converter → PulsePhase → PulseGroup
-pulse_with g d t = record { converter = d; length = g.length; channel = with_pulse_phase g.channel t }
+pulse_with g d t = group_with g d (with_pulse_phase g.channel t)
 
 abbrev pub wave_with : WaveGroup → Converter → WavePhase → WaveGroup
-wave_with g d t = record { converter = d; length = g.length; channel = with_wave_phase g.channel t }
+wave_with g d t = group_with g d (with_wave_phase g.channel t)
 
 abbrev pub noise_with : NoiseGroup → Converter → NoisePhase → NoiseGroup
-noise_with g d t = record { converter = d; length = g.length; channel = with_noise_phase g.channel t }
+noise_with g d t = group_with g d (with_noise_phase g.channel t)
 
 -- the unit with all of it put back, and the sample counter
 abbrev pub put_back : Apu → Phases → Converters → Float → Apu

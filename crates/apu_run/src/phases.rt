@@ -3,17 +3,12 @@
 ghost use Rattle.std.specs.Prelude.{◌≡◌, ◌≤◌, ◌/◌};
 ghost use Rattle.ground.specs.Iterate.{iterate};
 ghost use Rattle.apu.specs.Held.{Held};
-ghost use Rattle.channel_pulse.specs.Phase.{PulsePhaseHeld};
-ghost use Rattle.channel_wave.specs.Phase.{WavePhaseHeld};
-ghost use Rattle.channel_noise.specs.Phase.{NoisePhaseHeld};
 ghost use Rattle.channel_noise.specs.Reloads.{reload_list};
 ghost use Rattle.apu_run.specs.Phases.{SettingsHeld, PhasesHeld, settings_of, phases_of, converters_of, least, fast_of, tones_after};
-ghost use Rattle.apu_run.specs.Phases.{phases_clocked, pulse_with, wave_with, noise_with, put_back};
+ghost use Rattle.apu_run.specs.Phases.{phases_clocked, group_with, put_back};
 
 use apu::Apu;
-use channel_groups::noise_group::NoiseGroup;
-use channel_groups::pulse_group::PulseGroup;
-use channel_groups::wave_group::WaveGroup;
+use channel_groups::group::Group;
 use channel_noise::noise_channel::NoiseChannel;
 use channel_noise::phase::NoisePhase;
 use channel_pulse::phase::PulsePhase;
@@ -205,38 +200,15 @@ impl Phases {
     }
 }
 
-// A group with another converter, and with what moves as given.
-fn pulse_with(group: PulseGroup, converter: Converter, phase: PulsePhase) -> PulseGroup
-    requires { PulsePhaseHeld phase }
-    ensures { result ≡ pulse_with group converter phase }
+// A group with another converter and another channel.
+fn group_with<C: Copy>(group: Group<C>, converter: Converter, channel: C) -> Group<C>
+    ensures { result ≡ group_with group converter channel }
 {
-    let channel = group.channel;
-    let mut next = group;
-    next.converter = converter;
-    next.channel = channel.with_phase(phase);
-    next
-}
-
-fn wave_with(group: WaveGroup, converter: Converter, phase: WavePhase) -> WaveGroup
-    requires { WavePhaseHeld phase }
-    ensures { result ≡ wave_with group converter phase }
-{
-    let channel = group.channel;
-    let mut next = group;
-    next.converter = converter;
-    next.channel = channel.with_phase(phase);
-    next
-}
-
-fn noise_with(group: NoiseGroup, converter: Converter, phase: NoisePhase) -> NoiseGroup
-    requires { NoisePhaseHeld phase }
-    ensures { result ≡ noise_with group converter phase }
-{
-    let channel = group.channel;
-    let mut next = group;
-    next.converter = converter;
-    next.channel = channel.with_phase(phase);
-    next
+    Group {
+        converter,
+        channel,
+        ..group
+    }
 }
 
 // The unit with all of it put back, and the sample counter.
@@ -244,15 +216,15 @@ pub fn put_back(unit: Apu, phases: Phases, converters: Converters, counter: f64)
     requires { PhasesHeld phases }
     ensures { result ≡ put_back unit phases converters counter }
 {
-    let pulse1 = pulse_with(unit.pulse1, converters.pulse1, phases.pulse1);
-    let pulse2 = pulse_with(unit.pulse2, converters.pulse2, phases.pulse2);
-    let wave = wave_with(unit.wave, converters.wave, phases.wave);
-    let noise = noise_with(unit.noise, converters.noise, phases.noise);
+    let pulse1 = unit.pulse1.channel.with_phase(phases.pulse1);
+    let pulse2 = unit.pulse2.channel.with_phase(phases.pulse2);
+    let wave = unit.wave.channel.with_phase(phases.wave);
+    let noise = unit.noise.channel.with_phase(phases.noise);
     let mut next = unit;
-    next.pulse1 = pulse1;
-    next.pulse2 = pulse2;
-    next.wave = wave;
-    next.noise = noise;
+    next.pulse1 = group_with(unit.pulse1, converters.pulse1, pulse1);
+    next.pulse2 = group_with(unit.pulse2, converters.pulse2, pulse2);
+    next.wave = group_with(unit.wave, converters.wave, wave);
+    next.noise = group_with(unit.noise, converters.noise, noise);
     next.sample_counter = counter;
     next
 }

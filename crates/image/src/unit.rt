@@ -7,13 +7,14 @@ ghost use Rattle.image.specs.Image.{head_bytes, unit_bytes, unit_at, unit_fits};
 use crate::layout::{MODEL, NOISE, PULSE1, PULSE2, REST, TAIL, VERSION, WAVE, WAVE_MODEL};
 use crate::tail::{PLACES, put_tail, tail_fits};
 use apu::Apu;
+use channel_noise::noise_channel::NoiseChannel;
+use channel_pulse::pulse_channel::PulseChannel;
+use channel_wave::wave_channel::WaveChannel;
 use clocks::meter::FRAME_UNITS;
 use image_fields::bytes::{eight, put_flag, put_one, put_two, two};
 use image_fields::codes::position_at;
 use image_fields::floats::counter;
-use image_parts::noise::{noise_group_fits, put_noise_group, read_noise_group};
-use image_parts::pulse::{pulse_group_fits, put_pulse_group, read_pulse_group};
-use image_parts::wave::{put_wave_group, read_wave_group, wave_group_fits};
+use image_parts::group::{group_fits, put_group, read_group};
 
 // Version and length of the rest.
 fn put_head(out: &mut [u8], at: usize)
@@ -31,11 +32,11 @@ pub fn put_unit(out: &mut [u8], at: usize, unit: Apu)
     ensures { out.new ≡ stored out.old at (unit_bytes unit) }
 {
     put_head(out, at);
-    put_pulse_group(out, at + PULSE1, unit.pulse1);
-    put_pulse_group(out, at + PULSE2, unit.pulse2);
-    put_wave_group(out, at + WAVE, unit.wave);
+    put_group(out, at + PULSE1, unit.pulse1);
+    put_group(out, at + PULSE2, unit.pulse2);
+    put_group(out, at + WAVE, unit.wave);
     put_flag(out, at + WAVE_MODEL, unit.is_dmg);
-    put_noise_group(out, at + NOISE, unit.noise);
+    put_group(out, at + NOISE, unit.noise);
     put_tail(out, at + TAIL, unit);
 }
 
@@ -45,12 +46,11 @@ pub fn read_unit(s: &[u8], at: usize) -> Apu
     ensures { result ≡ unit_at s.now at }
 {
     let tail = at + TAIL;
-    let wave = read_wave_group(s, at + WAVE);
     Apu {
-        pulse1: read_pulse_group(s, at + PULSE1),
-        pulse2: read_pulse_group(s, at + PULSE2),
-        wave,
-        noise: read_noise_group(s, at + NOISE),
+        pulse1: read_group(s, at + PULSE1),
+        pulse2: read_group(s, at + PULSE2),
+        wave: read_group(s, at + WAVE),
+        noise: read_group(s, at + NOISE),
         channels_control: s[tail],
         channels_selection: s[tail + 1],
         power: s[tail + 2] == 1,
@@ -70,10 +70,10 @@ pub fn unit_fits(s: &[u8], at: usize) -> bool
     let tail = at + TAIL;
     (s[at] == VERSION)
         & (two(s, at + 1) == REST)
-        & pulse_group_fits(s, at + PULSE1)
-        & pulse_group_fits(s, at + PULSE2)
-        & wave_group_fits(s, at + WAVE)
+        & group_fits::<PulseChannel>(s, at + PULSE1)
+        & group_fits::<PulseChannel>(s, at + PULSE2)
+        & group_fits::<WaveChannel>(s, at + WAVE)
         & (s[at + WAVE_MODEL] == s[tail + MODEL])
-        & noise_group_fits(s, at + NOISE)
+        & group_fits::<NoiseChannel>(s, at + NOISE)
         & tail_fits(s, tail)
 }

@@ -5,6 +5,7 @@ pub mod Charges  -- a capacitor's range by its pattern
 pub mod Floats  -- capacitors and sample counters by their patterns
 pub mod Codes  -- the sequencer's position, the wave shift
 pub mod Parts  -- converter, length record, envelope; what the groups share
+pub mod Groups  -- a group, for any channel
 pub mod Pulse  -- sweep, pulse channel, pulse group
 pub mod Wave  -- wave RAM, wave channel, wave group
 pub mod Noise  -- noise channel, noise group

@@ -4,7 +4,7 @@ use mathlib.Core.Path.{◌≡◌, refl, ◌∙◌, ap}
 use mathlib.Core.List.{List, [], ◌∷◌}
 use native.Mathlib.Omega.{arith}
 use lib.ListN.{length, get_or}
-use lib.Dec.{T, leb→le, lit<}
+use lib.Dec.{T, leb→le}
 use Rattle.channel_noise.specs.Noise as channels
 use Rattle.channel_noise.specs.declared.noise_channel.NoiseChannel.{NoiseChannel}
 use Rattle.channel_groups.specs.NoiseGroups as groups
@@ -12,11 +12,12 @@ use Rattle.channel_groups.specs.NoiseGroups.{NoiseGroup}
 use Rattle.image_fields.specs.Bytes.{row}
 use Rattle.image_parts.specs.Parts.{converter_bytes, length_bytes, envelope_bytes}
 use Rattle.image_parts.specs.Noise.{noise_channel_bytes, noise_channel_at, noise_channel_tests, noise_channel_fits}
-use Rattle.image_parts.specs.Noise.{noise_group_bytes, noise_group_at, noise_group_tests, noise_group_fits}
+use Rattle.image_parts.specs.Noise.{noise_layout, noise_group_bytes}
+use Rattle.image_parts.specs.Groups.{group_bytes}
 use Rattle.image_laws.specs.Images.{Bytewise}
 use Rattle.image_laws.proofs.Numbers.{bit_back, bit_same, passed, every, row_shift, first_of, first_row, nth, part, glue, two_back, two_same}
-use Rattle.image_laws.proofs.Parts.{within, flag_within, converter_back, converter_held, converter-fits}
-use Rattle.image_laws.proofs.Parts.{length_back, length_held, length-fits, converter_row, length_row, channel_row, group_same}
+use Rattle.image_laws.proofs.Parts.{within, flag_within}
+use Rattle.image_laws.proofs.Groups.{ChannelLaws}
 use Rattle.image_laws.proofs.Parts.{envelope_back, envelope_same, envelope_held, envelope-fits}
 
 -- ---- the noise channel
@@ -73,39 +74,10 @@ module _ (s : List ℕ) (at : ℕ) where
       every (noise_channel_tests s at)
       (within (first_of s at 14 _ h) k.shift, (narrow, (within (nth 2 h) k.code, (timer, (register, (envelope, (on, (dac, tt))))))))
 
--- ---- with its converter and its length record
+-- ---- and so is its group
+pub noise_laws : ChannelLaws groups.kind noise_layout
+noise_laws = record { back = noise_channel_back; same = noise_channel_same; held = noise_channel_held; fits = noise-channel-fits }
+
 pub noise_group_long : (g : NoiseGroup) → length (noise_group_bytes g) ≡ 26
-unfolding noise_group_bytes converter_bytes length_bytes noise_channel_bytes envelope_bytes
+unfolding group_bytes converter_bytes length_bytes noise_channel_bytes envelope_bytes
 noise_group_long g = refl
-
-module _ (s : List ℕ) (at : ℕ) where
-  pub noise_group_back : (g : NoiseGroup) → groups.Held g → groups.FloatHeld g → row s at 0 26 ≡ noise_group_bytes g → noise_group_at s at ≡ g
-  unfolding noise_group_bytes
-  noise_group_back g k f h =
-      rw (
-        converter_back s at g.converter f (converter_row s at 15 _ _ _ h),
-        length_back s (at + 4) 64 (lit< tt) g.length k.length (length_row s at 15 _ _ _ h),
-        noise_channel_back s (at + 11) g.channel k.channel (channel_row s at 15 _ _ _ h),
-      )
-
-  pub noise_group_same : Bytewise s → T (noise_group_fits s at) → noise_group_bytes (noise_group_at s at) ≡ row s at 0 26
-  unfolding noise_group_bytes
-  noise_group_same b t =
-      let h = passed (noise_group_tests s at) t in
-      group_same s at 15 64 (lit< tt) _ b (h 0) (h 1) (noise_channel_same s (at + 11) b (h 2))
-
-  pub noise_group_held : T (noise_group_fits s at) → groups.Held (noise_group_at s at)
-  noise_group_held t =
-      let h = passed (noise_group_tests s at) t in
-      record { length = length_held s (at + 4) 64 (lit< tt) (h 1); channel = noise_channel_held s (at + 11) (h 2) }
-
-  pub noise_group_float_held : T (noise_group_fits s at) → groups.FloatHeld (noise_group_at s at)
-  noise_group_float_held t = converter_held s at (passed (noise_group_tests s at) t 0)
-
-  pub noise-group-fits : (g : NoiseGroup) → groups.Held g → groups.FloatHeld g → row s at 0 26 ≡ noise_group_bytes g → T (noise_group_fits s at)
-  unfolding noise_group_bytes
-  noise-group-fits g k f h =
-      let converter = converter-fits s at g.converter f (converter_row s at 15 _ _ _ h) in
-      let length = length-fits s (at + 4) 64 (lit< tt) g.length k.length (length_row s at 15 _ _ _ h) in
-      let channel = noise-channel-fits s (at + 11) g.channel k.channel (channel_row s at 15 _ _ _ h) in
-      every (noise_group_tests s at) (converter, (length, (channel, tt)))

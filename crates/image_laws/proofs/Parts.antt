@@ -132,7 +132,7 @@ module _ (s : List ℕ) (at n : ℕ) where
     unfolding converter_bytes length_bytes
     channel_row = row_shift s at 11 0 n ∙ ap (drop 11) h
 
-  pub group_same : (m : ℕ) → m < 65536 → (channel : List ℕ) → Bytewise s → T (converter_fits s at) → T (length_fits m s (at + 4))
+  pub parts_same : (m : ℕ) → m < 65536 → (channel : List ℕ) → Bytewise s → T (converter_fits s at) → T (length_fits m s (at + 4))
       → channel ≡ row s (at + 11) 0 n → converter_bytes (converter_at s at) ++ length_bytes (length_at s (at + 4)) ++ channel ≡ row s at 0 11 ++ row s at 11 n
-  group_same m M channel b converter length e =
+  parts_same m M channel b converter length e =
       glue (glue (converter_same s at b converter) (length_same s (at + 4) m M b length ∙ row_shift s at 4 0 7)) (e ∙ row_shift s at 11 0 n)

@@ -5,7 +5,7 @@ use mathlib.Core.List.{List, ◌∷◌}
 use native.Mathlib.Nat.{add-zero}
 use native.Mathlib.Omega.{arith}
 use lib.ListN.{length, get_or}
-use lib.Dec.{T, leb→le, lit<}
+use lib.Dec.{T, leb→le}
 use Rattle.channel_pulse.specs.Sweep as sweeps
 use Rattle.channel_pulse.specs.declared.sweep.Sweep.{Sweep}
 use Rattle.channel_pulse.specs.Pulse as channels
@@ -16,12 +16,13 @@ use Rattle.image_fields.specs.Bytes.{row}
 use Rattle.image_parts.specs.Parts.{converter_bytes, length_bytes, envelope_bytes}
 use Rattle.image_parts.specs.Pulse.{sweep_bytes, sweep_at, sweep_tests, sweep_fits}
 use Rattle.image_parts.specs.Pulse.{pulse_channel_bytes, pulse_channel_at, pulse_channel_tests, pulse_channel_fits}
-use Rattle.image_parts.specs.Pulse.{pulse_group_bytes, pulse_group_at, pulse_group_tests, pulse_group_fits}
+use Rattle.image_parts.specs.Pulse.{pulse_layout, pulse_group_bytes}
+use Rattle.image_parts.specs.Groups.{group_bytes}
 use Rattle.image_laws.specs.Images.{Bytewise}
 use Rattle.image_laws.proofs.Numbers.{bit_back, bit_same, passed, every, row_shift, first_of, nth, part, glue, two_back, eight_back}
 use Rattle.image_laws.proofs.Numbers.{two_high, two_low, two_same, eight_same}
-use Rattle.image_laws.proofs.Parts.{within, flag_within, converter_back, converter_held, converter-fits}
-use Rattle.image_laws.proofs.Parts.{length_back, length_held, length-fits, converter_row, length_row, channel_row, group_same}
+use Rattle.image_laws.proofs.Parts.{within, flag_within}
+use Rattle.image_laws.proofs.Groups.{ChannelLaws}
 use Rattle.image_laws.proofs.Parts.{envelope_back, envelope_same, envelope_held, envelope-fits}
 
 -- ---- a sweep
@@ -139,39 +140,10 @@ module _ (s : List ℕ) (at : ℕ) where
       every (pulse_channel_tests s at)
       (sweep, (position, (within (nth 16 h) k.duty, (envelope, (frequency, (timer, (on, (first, (dac, tt)))))))))
 
--- ---- with its converter and its length record
+-- ---- and so is its group
+pub pulse_laws : ChannelLaws groups.kind pulse_layout
+pulse_laws = record { back = pulse_channel_back; same = pulse_channel_same; held = pulse_channel_held; fits = pulse-channel-fits }
+
 pub pulse_group_long : (g : PulseGroup) → length (pulse_group_bytes g) ≡ 41
-unfolding pulse_group_bytes converter_bytes length_bytes pulse_channel_bytes sweep_bytes envelope_bytes
+unfolding group_bytes converter_bytes length_bytes pulse_channel_bytes sweep_bytes envelope_bytes
 pulse_group_long g = refl
-
-module _ (s : List ℕ) (at : ℕ) where
-  pub pulse_group_back : (g : PulseGroup) → groups.Held g → groups.FloatHeld g → row s at 0 41 ≡ pulse_group_bytes g → pulse_group_at s at ≡ g
-  unfolding pulse_group_bytes
-  pulse_group_back g k f h =
-      rw (
-        converter_back s at g.converter f (converter_row s at 30 _ _ _ h),
-        length_back s (at + 4) 64 (lit< tt) g.length k.length (length_row s at 30 _ _ _ h),
-        pulse_channel_back s (at + 11) g.channel k.channel (channel_row s at 30 _ _ _ h),
-      )
-
-  pub pulse_group_same : Bytewise s → T (pulse_group_fits s at) → pulse_group_bytes (pulse_group_at s at) ≡ row s at 0 41
-  unfolding pulse_group_bytes
-  pulse_group_same b t =
-      let h = passed (pulse_group_tests s at) t in
-      group_same s at 30 64 (lit< tt) _ b (h 0) (h 1) (pulse_channel_same s (at + 11) b (h 2))
-
-  pub pulse_group_held : T (pulse_group_fits s at) → groups.Held (pulse_group_at s at)
-  pulse_group_held t =
-      let h = passed (pulse_group_tests s at) t in
-      record { length = length_held s (at + 4) 64 (lit< tt) (h 1); channel = pulse_channel_held s (at + 11) (h 2) }
-
-  pub pulse_group_float_held : T (pulse_group_fits s at) → groups.FloatHeld (pulse_group_at s at)
-  pulse_group_float_held t = converter_held s at (passed (pulse_group_tests s at) t 0)
-
-  pub pulse-group-fits : (g : PulseGroup) → groups.Held g → groups.FloatHeld g → row s at 0 41 ≡ pulse_group_bytes g → T (pulse_group_fits s at)
-  unfolding pulse_group_bytes
-  pulse-group-fits g k f h =
-      let converter = converter-fits s at g.converter f (converter_row s at 30 _ _ _ h) in
-      let length = length-fits s (at + 4) 64 (lit< tt) g.length k.length (length_row s at 30 _ _ _ h) in
-      let channel = pulse-channel-fits s (at + 11) g.channel k.channel (channel_row s at 30 _ _ _ h) in
-      every (pulse_group_tests s at) (converter, (length, (channel, tt)))

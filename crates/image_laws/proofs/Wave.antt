@@ -6,7 +6,7 @@ use mathlib.Core.List.{List, [], ◌∷◌}
 use native.Mathlib.Nat.{add-zero}
 use native.Mathlib.Omega.{arith}
 use lib.ListN.{length, get_or}
-use lib.Dec.{T, leb→le, lit<}
+use lib.Dec.{T, leb→le}
 use Rattle.channel_wave.specs.Wave as channels
 use Rattle.channel_wave.specs.declared.wave_channel.WaveChannel.{WaveChannel}
 use Rattle.channel_groups.specs.WaveGroups as groups
@@ -15,13 +15,14 @@ use Rattle.image_fields.specs.Bytes.{row}
 use Rattle.image_fields.specs.Codes.{shift_fits}
 use Rattle.image_parts.specs.Parts.{converter_bytes, length_bytes}
 use Rattle.image_parts.specs.Wave.{ram_bytes, ram_at, wave_channel_bytes, wave_channel_at, wave_channel_tests, wave_channel_fits}
-use Rattle.image_parts.specs.Wave.{wave_group_bytes, wave_group_at, wave_group_tests, wave_group_fits}
+use Rattle.image_parts.specs.Wave.{wave_layout, wave_group_bytes}
+use Rattle.image_parts.specs.Groups.{group_bytes}
 use Rattle.image_laws.specs.Images.{Bytewise}
 use Rattle.image_laws.proofs.Numbers.{bit_back, bit_same, passed, every, row_shift, row_all, first_of, first_row, nth, part, glue}
 use Rattle.image_laws.proofs.Numbers.{two_back, two_same}
 use Rattle.image_laws.proofs.Codes.{shift_held, shift_fits_lem}
-use Rattle.image_laws.proofs.Parts.{within, flag_within, converter_back, converter_held, converter-fits}
-use Rattle.image_laws.proofs.Parts.{length_back, length_held, length-fits, converter_row, length_row, channel_row, group_same}
+use Rattle.image_laws.proofs.Parts.{within, flag_within}
+use Rattle.image_laws.proofs.Groups.{ChannelLaws}
 
 -- ---- wave RAM
 module _ (s : List ℕ) (at : ℕ) where
@@ -97,39 +98,10 @@ module _ (s : List ℕ) (at : ℕ) where
       every (wave_channel_tests s at)
       (within (first_of s at 25 _ h) k.volume, (shift, (frequency, (within (nth 20 h) k.position, (just, (timer, (on, (dac, tt))))))))
 
--- ---- with its converter and its length record
+-- ---- and so is its group
+pub wave_laws : ChannelLaws groups.kind wave_layout
+wave_laws = record { back = wave_channel_back; same = wave_channel_same; held = wave_channel_held; fits = wave-channel-fits }
+
 pub wave_group_long : (g : WaveGroup) → length (wave_group_bytes g) ≡ 37
-unfolding wave_group_bytes converter_bytes length_bytes wave_channel_bytes ram_bytes
+unfolding group_bytes converter_bytes length_bytes wave_channel_bytes ram_bytes
 wave_group_long g = refl
-
-module _ (s : List ℕ) (at : ℕ) where
-  pub wave_group_back : (g : WaveGroup) → groups.Held g → groups.FloatHeld g → row s at 0 37 ≡ wave_group_bytes g → wave_group_at s at ≡ g
-  unfolding wave_group_bytes
-  wave_group_back g k f h =
-      rw (
-        converter_back s at g.converter f (converter_row s at 26 _ _ _ h),
-        length_back s (at + 4) 256 (lit< tt) g.length k.length (length_row s at 26 _ _ _ h),
-        wave_channel_back s (at + 11) g.channel k.channel (channel_row s at 26 _ _ _ h),
-      )
-
-  pub wave_group_same : Bytewise s → T (wave_group_fits s at) → wave_group_bytes (wave_group_at s at) ≡ row s at 0 37
-  unfolding wave_group_bytes
-  wave_group_same b t =
-      let h = passed (wave_group_tests s at) t in
-      group_same s at 26 256 (lit< tt) _ b (h 0) (h 1) (wave_channel_same s (at + 11) b (h 2))
-
-  pub wave_group_held : T (wave_group_fits s at) → groups.Held (wave_group_at s at)
-  wave_group_held t =
-      let h = passed (wave_group_tests s at) t in
-      record { length = length_held s (at + 4) 256 (lit< tt) (h 1); channel = wave_channel_held s (at + 11) (h 2) }
-
-  pub wave_group_float_held : T (wave_group_fits s at) → groups.FloatHeld (wave_group_at s at)
-  wave_group_float_held t = converter_held s at (passed (wave_group_tests s at) t 0)
-
-  pub wave-group-fits : (g : WaveGroup) → groups.Held g → groups.FloatHeld g → row s at 0 37 ≡ wave_group_bytes g → T (wave_group_fits s at)
-  unfolding wave_group_bytes
-  wave-group-fits g k f h =
-      let converter = converter-fits s at g.converter f (converter_row s at 26 _ _ _ h) in
-      let length = length-fits s (at + 4) 256 (lit< tt) g.length k.length (length_row s at 26 _ _ _ h) in
-      let channel = wave-channel-fits s (at + 11) g.channel k.channel (channel_row s at 26 _ _ _ h) in
-      every (wave_group_tests s at) (converter, (length, (channel, tt)))

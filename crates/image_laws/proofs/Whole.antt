@@ -8,6 +8,7 @@ use lib.Ieee.Fits.{eq→eqb}
 use Rattle.clocks.specs.Calls.{K}
 use Rattle.image_fields.specs.Bytes.{row, bit_of, be2, two_at}
 use Rattle.image_parts.specs.Parts.{converter_bytes, length_bytes, envelope_bytes}
+use Rattle.image_parts.specs.Groups.{group_bytes}
 use Rattle.image_parts.specs.Pulse.{sweep_bytes, pulse_channel_bytes, pulse_group_bytes}
 use Rattle.image_parts.specs.Wave.{ram_bytes, wave_channel_bytes, wave_group_bytes}
 use Rattle.image_parts.specs.Noise.{noise_channel_bytes, noise_group_bytes}
@@ -20,9 +21,10 @@ use Rattle.image_laws.proofs.Numbers.{bit_back, bit_same, passed, every, row_shi
 use Rattle.image_laws.proofs.Numbers.{two_back, two_same}
 use Rattle.image_laws.proofs.Floats.{counter_back}
 use Rattle.image_laws.proofs.Codes.{position_back}
-use Rattle.image_laws.proofs.Pulse.{pulse_group_back, pulse_group_same, pulse_group_held, pulse_group_float_held, pulse-group-fits}
-use Rattle.image_laws.proofs.Wave.{wave_group_back, wave_group_same, wave_group_held, wave_group_float_held, wave-group-fits}
-use Rattle.image_laws.proofs.Noise.{noise_group_back, noise_group_same, noise_group_held, noise_group_float_held, noise-group-fits}
+use Rattle.image_laws.proofs.Groups.{group_back, group_same, group_held, group_float_held, group-fits}
+use Rattle.image_laws.proofs.Pulse.{pulse_laws}
+use Rattle.image_laws.proofs.Wave.{wave_laws}
+use Rattle.image_laws.proofs.Noise.{noise_laws}
 use Rattle.image_laws.proofs.Tail.{measure, TailHeld, pattern_back, tail_same, tail_held, tail-fits}
 
 -- of a whole unit, what stands in its tail
@@ -41,8 +43,8 @@ pub record Rows (s : List ℕ) (at : ℕ) (u : Apu) : Type 0 where
   tail : row s (at + tail_base) 0 15 ≡ tail_bytes u
 
 pub rows : (s : List ℕ) (at : ℕ) (u : Apu) → row s at 0 image_length ≡ unit_bytes u → Rows s at u
-unfolding unit_bytes tail_bytes converter_bytes length_bytes envelope_bytes sweep_bytes pulse_channel_bytes pulse_group_bytes ram_bytes
-    wave_channel_bytes wave_group_bytes noise_channel_bytes noise_group_bytes
+unfolding unit_bytes tail_bytes converter_bytes length_bytes envelope_bytes sweep_bytes pulse_channel_bytes ram_bytes
+    wave_channel_bytes noise_channel_bytes group_bytes
 rows s at u h =
     record {
       version = first_of s at 163 _ h;
@@ -56,8 +58,8 @@ rows s at u h =
     }
 
 pub unit_long : (u : Apu) → length (unit_bytes u) ≡ image_length
-unfolding unit_bytes tail_bytes converter_bytes length_bytes envelope_bytes sweep_bytes pulse_channel_bytes pulse_group_bytes ram_bytes
-    wave_channel_bytes wave_group_bytes noise_channel_bytes noise_group_bytes
+unfolding unit_bytes tail_bytes converter_bytes length_bytes envelope_bytes sweep_bytes pulse_channel_bytes ram_bytes
+    wave_channel_bytes noise_channel_bytes group_bytes
 unit_long u = refl
 
 module _ (s : List ℕ) (at : ℕ) where
@@ -68,10 +70,10 @@ module _ (s : List ℕ) (at : ℕ) where
   unfolding tail_bytes
   unit_back u k r =
       rw (
-        pulse_group_back s (at + pulse1_base) u.pulse1 k.held.pulse1 k.floats.pulse1 r.pulse1,
-        pulse_group_back s (at + pulse2_base) u.pulse2 k.held.pulse2 k.floats.pulse2 r.pulse2,
-        wave_group_back s (at + wave_base) u.wave k.held.wave k.floats.wave r.wave,
-        noise_group_back s (at + noise_base) u.noise k.held.noise k.floats.noise r.noise,
+        group_back pulse_laws 64 (lit< tt) s (at + pulse1_base) u.pulse1 k.held.pulse1 k.floats.pulse1 r.pulse1,
+        group_back pulse_laws 64 (lit< tt) s (at + pulse2_base) u.pulse2 k.held.pulse2 k.floats.pulse2 r.pulse2,
+        group_back wave_laws 256 (lit< tt) s (at + wave_base) u.wave k.held.wave k.floats.wave r.wave,
+        group_back noise_laws 64 (lit< tt) s (at + noise_base) u.noise k.held.noise k.floats.noise r.noise,
         first_of s tail 14 _ r.tail,
         nth 1 r.tail,
         nth 2 r.tail,
@@ -90,10 +92,10 @@ module _ (s : List ℕ) (at : ℕ) where
   pub unit-fits : (u : Apu) → Whole u → Rows s at u → T (unit_fits s at)
   unfolding tail_bytes
   unit-fits u k r =
-      let one = pulse-group-fits s (at + pulse1_base) u.pulse1 k.held.pulse1 k.floats.pulse1 r.pulse1 in
-      let two = pulse-group-fits s (at + pulse2_base) u.pulse2 k.held.pulse2 k.floats.pulse2 r.pulse2 in
-      let wave = wave-group-fits s (at + wave_base) u.wave k.held.wave k.floats.wave r.wave in
-      let noise = noise-group-fits s (at + noise_base) u.noise k.held.noise k.floats.noise r.noise in
+      let one = group-fits pulse_laws 64 (lit< tt) s (at + pulse1_base) u.pulse1 k.held.pulse1 k.floats.pulse1 r.pulse1 in
+      let two = group-fits pulse_laws 64 (lit< tt) s (at + pulse2_base) u.pulse2 k.held.pulse2 k.floats.pulse2 r.pulse2 in
+      let wave = group-fits wave_laws 256 (lit< tt) s (at + wave_base) u.wave k.held.wave k.floats.wave r.wave in
+      let noise = group-fits noise_laws 64 (lit< tt) s (at + noise_base) u.noise k.held.noise k.floats.noise r.noise in
       let models = eq→eqb (r.model ∙ sym (nth model r.tail)) in
       let rest = eq→eqb (two_back s (at + 1) rest_length r.rest (lit< tt)) in
       every (unit_tests s at) (eq→eqb r.version, (rest, (one, (two, (wave, (models, (noise, (tail-fits s tail u (in_tail u k) r.tail, tt))))))))
@@ -104,25 +106,25 @@ module _ (s : List ℕ) (at : ℕ) where
       let k = tail_held s tail at (h 7) in
       record {
         held = record {
-          pulse1 = pulse_group_held s (at + pulse1_base) (h 2);
-          pulse2 = pulse_group_held s (at + pulse2_base) (h 3);
-          wave = wave_group_held s (at + wave_base) (h 4);
-          noise = noise_group_held s (at + noise_base) (h 6);
+          pulse1 = group_held pulse_laws 64 (lit< tt) s (at + pulse1_base) (h 2);
+          pulse2 = group_held pulse_laws 64 (lit< tt) s (at + pulse2_base) (h 3);
+          wave = group_held wave_laws 256 (lit< tt) s (at + wave_base) (h 4);
+          noise = group_held noise_laws 64 (lit< tt) s (at + noise_base) (h 6);
           position = k.position;
           clocks = k.clocks;
         };
         floats = record {
-          pulse1 = pulse_group_float_held s (at + pulse1_base) (h 2);
-          pulse2 = pulse_group_float_held s (at + pulse2_base) (h 3);
-          wave = wave_group_float_held s (at + wave_base) (h 4);
-          noise = noise_group_float_held s (at + noise_base) (h 6);
+          pulse1 = group_float_held pulse_laws 64 (lit< tt) s (at + pulse1_base) (h 2);
+          pulse2 = group_float_held pulse_laws 64 (lit< tt) s (at + pulse2_base) (h 3);
+          wave = group_float_held wave_laws 256 (lit< tt) s (at + wave_base) (h 4);
+          noise = group_float_held noise_laws 64 (lit< tt) s (at + noise_base) (h 6);
           counter = k.counter;
         };
       }
 
   pub unit_same : Bytewise s → T (unit_fits s at) → unit_bytes (unit_at s at) ≡ row s at 0 image_length
-  unfolding unit_bytes tail_bytes converter_bytes length_bytes envelope_bytes sweep_bytes pulse_channel_bytes pulse_group_bytes ram_bytes
-      wave_channel_bytes wave_group_bytes noise_channel_bytes noise_group_bytes
+  unfolding unit_bytes tail_bytes converter_bytes length_bytes envelope_bytes sweep_bytes pulse_channel_bytes ram_bytes
+      wave_channel_bytes noise_channel_bytes group_bytes
   unit_same b t =
       let h = passed (unit_tests s at) t in
       let one : ℕ → List ℕ = λ i. i ∷ [] in
@@ -130,9 +132,9 @@ module _ (s : List ℕ) (at : ℕ) where
       let models = bit_same (get_or s (tail + model) 0) last ∙ sym (eqb→eq (get_or s (at + wave_model) 0) (get_or s (tail + model) 0) (h 5)) in
       glue (ap one (sym (eqb→eq (get_or s at 0) version (h 0))) ∙ first_row s at)
       (glue (ap be2 (sym (eqb→eq (two_at s (at + 1)) rest_length (h 1))) ∙ two_same s (at + 1) b ∙ row_shift s at 1 0 2)
-      (glue (pulse_group_same s (at + pulse1_base) b (h 2) ∙ row_shift s at pulse1_base 0 41)
-      (glue (pulse_group_same s (at + pulse2_base) b (h 3) ∙ row_shift s at pulse2_base 0 41)
-      (glue (wave_group_same s (at + wave_base) b (h 4) ∙ row_shift s at wave_base 0 37)
+      (glue (group_same pulse_laws 64 (lit< tt) s (at + pulse1_base) b (h 2) ∙ row_shift s at pulse1_base 0 41)
+      (glue (group_same pulse_laws 64 (lit< tt) s (at + pulse2_base) b (h 3) ∙ row_shift s at pulse2_base 0 41)
+      (glue (group_same wave_laws 256 (lit< tt) s (at + wave_base) b (h 4) ∙ row_shift s at wave_base 0 37)
       (glue (ap one models)
-      (glue (noise_group_same s (at + noise_base) b (h 6) ∙ row_shift s at noise_base 0 26)
+      (glue (group_same noise_laws 64 (lit< tt) s (at + noise_base) b (h 6) ∙ row_shift s at noise_base 0 26)
       (tail_same s tail at b (h 7) ∙ row_shift s at tail_base 0 15)))))))

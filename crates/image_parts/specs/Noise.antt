@@ -3,8 +3,8 @@ use Rattle.std.specs.Prelude.{ℕ, ◌+◌, Bool, List, [], ◌∷◌, ◌++◌,
 use Rattle.image_fields.specs.Bytes.{bit_of, is_one, is_flag, be2, two_at, all_of}
 use Rattle.channel_noise.specs.declared.noise_channel.NoiseChannel.{NoiseChannel}
 use Rattle.channel_groups.specs.NoiseGroups.{NoiseGroup}
-use Rattle.image_parts.specs.Parts.{converter_bytes, converter_at, converter_fits, length_bytes, length_at}
-use Rattle.image_parts.specs.Parts.{length_fits, envelope_bytes, envelope_at, envelope_fits}
+use Rattle.image_parts.specs.Parts.{envelope_bytes, envelope_at, envelope_fits}
+use Rattle.image_parts.specs.Groups.{Layout, group_bytes, group_at, group_tests, group_fits}
 
 -- ---- the noise channel, 15 bytes
 unfoldable pub noise_channel_bytes : NoiseChannel → List ℕ
@@ -34,21 +34,18 @@ noise_channel_tests s at =
 abbrev pub noise_channel_fits : List ℕ → ℕ → Bool
 noise_channel_fits s at = all_of (noise_channel_tests s at)
 
+abbrev pub noise_layout : Layout NoiseChannel
+noise_layout = record { size = 15; bytes = noise_channel_bytes; value = noise_channel_at; fits = noise_channel_fits }
+
 -- ---- with converter and length, 26 bytes
-unfoldable pub noise_group_bytes : NoiseGroup → List ℕ
-noise_group_bytes l = converter_bytes l.converter ++ length_bytes l.length ++ noise_channel_bytes l.channel
+abbrev pub noise_group_bytes : NoiseGroup → List ℕ
+noise_group_bytes = group_bytes noise_layout
 
 abbrev pub noise_group_at : List ℕ → ℕ → NoiseGroup
-noise_group_at s at =
-    record {
-      converter = converter_at s at;
-      length = length_at s (at + 4);
-      channel = noise_channel_at s (at + 11);
-    }
+noise_group_at = group_at noise_layout
 
 abbrev pub noise_group_tests : List ℕ → ℕ → List Bool
-noise_group_tests s at =
-    converter_fits s at ∷ length_fits 64 s (at + 4) ∷ noise_channel_fits s (at + 11) ∷ []
+noise_group_tests = group_tests noise_layout 64
 
 abbrev pub noise_group_fits : List ℕ → ℕ → Bool
-noise_group_fits s at = all_of (noise_group_tests s at)
+noise_group_fits = group_fits noise_layout 64

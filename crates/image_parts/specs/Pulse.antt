@@ -4,8 +4,8 @@ use Rattle.image_fields.specs.Bytes.{bit_of, is_one, is_flag, be2, be8, two_at, 
 use Rattle.channel_pulse.specs.declared.sweep.Sweep.{Sweep}
 use Rattle.channel_pulse.specs.declared.pulse_channel.PulseChannel.{PulseChannel}
 use Rattle.channel_groups.specs.PulseGroups.{PulseGroup}
-use Rattle.image_parts.specs.Parts.{converter_bytes, converter_at, converter_fits, length_bytes, length_at}
-use Rattle.image_parts.specs.Parts.{length_fits, envelope_bytes, envelope_at, envelope_fits}
+use Rattle.image_parts.specs.Parts.{envelope_bytes, envelope_at, envelope_fits}
+use Rattle.image_parts.specs.Groups.{Layout, group_bytes, group_at, group_tests, group_fits}
 
 -- ---- a sweep, 8 bytes
 unfoldable pub sweep_bytes : Sweep → List ℕ
@@ -63,16 +63,18 @@ pulse_channel_tests s at =
 abbrev pub pulse_channel_fits : List ℕ → ℕ → Bool
 pulse_channel_fits s at = all_of (pulse_channel_tests s at)
 
+abbrev pub pulse_layout : Layout PulseChannel
+pulse_layout = record { size = 30; bytes = pulse_channel_bytes; value = pulse_channel_at; fits = pulse_channel_fits }
+
 -- ---- with converter and length, 41 bytes
-unfoldable pub pulse_group_bytes : PulseGroup → List ℕ
-pulse_group_bytes l = converter_bytes l.converter ++ length_bytes l.length ++ pulse_channel_bytes l.channel
+abbrev pub pulse_group_bytes : PulseGroup → List ℕ
+pulse_group_bytes = group_bytes pulse_layout
 
 abbrev pub pulse_group_at : List ℕ → ℕ → PulseGroup
-pulse_group_at s at = record { converter = converter_at s at; length = length_at s (at + 4); channel = pulse_channel_at s (at + 11) }
+pulse_group_at = group_at pulse_layout
 
 abbrev pub pulse_group_tests : List ℕ → ℕ → List Bool
-pulse_group_tests s at =
-    converter_fits s at ∷ length_fits 64 s (at + 4) ∷ pulse_channel_fits s (at + 11) ∷ []
+pulse_group_tests = group_tests pulse_layout 64
 
 abbrev pub pulse_group_fits : List ℕ → ℕ → Bool
-pulse_group_fits s at = all_of (pulse_group_tests s at)
+pulse_group_fits = group_fits pulse_layout 64

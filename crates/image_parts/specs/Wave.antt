@@ -5,7 +5,7 @@ use Rattle.image_fields.specs.Bytes.{bit_of, is_one, is_flag, be2, two_at, all_o
 use Rattle.image_fields.specs.Codes.{shift_fits}
 use Rattle.channel_wave.specs.declared.wave_channel.WaveChannel.{WaveChannel}
 use Rattle.channel_groups.specs.WaveGroups.{WaveGroup}
-use Rattle.image_parts.specs.Parts.{converter_bytes, converter_at, converter_fits, length_bytes, length_at, length_fits}
+use Rattle.image_parts.specs.Groups.{Layout, group_bytes, group_at, group_tests, group_fits}
 
 -- ---- wave RAM, 16 bytes
 unfoldable pub ram_bytes : List ℕ → List ℕ
@@ -43,21 +43,18 @@ wave_channel_tests s at =
 abbrev pub wave_channel_fits : List ℕ → ℕ → Bool
 wave_channel_fits s at = all_of (wave_channel_tests s at)
 
+abbrev pub wave_layout : Layout WaveChannel
+wave_layout = record { size = 26; bytes = wave_channel_bytes; value = wave_channel_at; fits = wave_channel_fits }
+
 -- ---- with converter and length, 37 bytes
-unfoldable pub wave_group_bytes : WaveGroup → List ℕ
-wave_group_bytes l = converter_bytes l.converter ++ length_bytes l.length ++ wave_channel_bytes l.channel
+abbrev pub wave_group_bytes : WaveGroup → List ℕ
+wave_group_bytes = group_bytes wave_layout
 
 abbrev pub wave_group_at : List ℕ → ℕ → WaveGroup
-wave_group_at s at =
-    record {
-      converter = converter_at s at;
-      length = length_at s (at + 4);
-      channel = wave_channel_at s (at + 11);
-    }
+wave_group_at = group_at wave_layout
 
 abbrev pub wave_group_tests : List ℕ → ℕ → List Bool
-wave_group_tests s at =
-    converter_fits s at ∷ length_fits 256 s (at + 4) ∷ wave_channel_fits s (at + 11) ∷ []
+wave_group_tests = group_tests wave_layout 256
 
 abbrev pub wave_group_fits : List ℕ → ℕ → Bool
-wave_group_fits s at = all_of (wave_group_tests s at)
+wave_group_fits = group_fits wave_layout 256

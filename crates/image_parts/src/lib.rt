@@ -4,8 +4,9 @@
 
 pub mod converter; // converter.rt: a capacitor
 pub mod envelope; // envelope.rt: a volume envelope
+pub mod group; // group.rt: converter, length and channel, for any channel
 pub mod length; // length.rt: a length record
-pub mod noise; // noise.rt: the noise channel and its group
-pub mod pulse; // pulse.rt: a pulse channel and its group
+pub mod noise; // noise.rt: the noise channel
+pub mod pulse; // pulse.rt: a pulse channel
 pub mod sweep; // sweep.rt: a frequency sweep
-pub mod wave; // wave.rt: wave RAM, the wave channel and its group
+pub mod wave; // wave.rt: wave RAM and the wave channel

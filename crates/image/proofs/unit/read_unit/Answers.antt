@@ -24,17 +24,13 @@ returns c =
     let position_at = c.position_at in
     let counter = c.counter in
     let at-eight = c.eight in
-    let read-noise-group = c.read_noise_group in
-    let read-pulse-group2 = c.read_pulse_group-2 in
-    let read-pulse-group = c.read_pulse_group in
-    let read-wave-group = c.read_wave_group-wave in
     rw (
       position_at.ensures,
       counter.ensures,
       at-eight.ensures,
-      read-noise-group.ensures,
-      read-pulse-group2.ensures,
-      read-pulse-group.ensures,
-      read-wave-group.ensures,
+      c.read_group-4.ensures,
+      c.read_group-3.ensures,
+      c.read_group-2.ensures,
+      c.read_group.ensures,
     )
     (simp of-same)

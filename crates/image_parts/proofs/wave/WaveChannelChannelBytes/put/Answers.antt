@@ -2,7 +2,7 @@
 use mathlib.Core.Path.{refl}
 use Rattle.image_fields.proofs.Rows.{onward}
 use Rattle.image_parts.specs.Wave.{wave_channel_bytes, ram_bytes}
-use Rattle.image_parts.proofs.wave.put_wave_channel.Goals as goal
+use Rattle.image_parts.proofs.wave.WaveChannelChannelBytes.put.Goals as goal
 
 pub returns : goal.returns
 unfolding wave_channel_bytes ram_bytes

@@ -3,7 +3,7 @@ use mathlib.Core.Path.{refl}
 use Rattle.image_fields.proofs.Rows.{onward}
 use Rattle.image_parts.specs.Pulse.{pulse_channel_bytes, sweep_bytes}
 use Rattle.image_parts.specs.Parts.{envelope_bytes}
-use Rattle.image_parts.proofs.pulse.put_pulse_channel.Goals as goal
+use Rattle.image_parts.proofs.pulse.PulseChannelChannelBytes.put.Goals as goal
 
 pub returns : goal.returns
 unfolding pulse_channel_bytes sweep_bytes envelope_bytes

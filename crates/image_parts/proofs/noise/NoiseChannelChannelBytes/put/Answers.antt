@@ -3,7 +3,7 @@ use mathlib.Core.Path.{refl}
 use Rattle.image_fields.proofs.Rows.{onward}
 use Rattle.image_parts.specs.Noise.{noise_channel_bytes}
 use Rattle.image_parts.specs.Parts.{envelope_bytes}
-use Rattle.image_parts.proofs.noise.put_noise_channel.Goals as goal
+use Rattle.image_parts.proofs.noise.NoiseChannelChannelBytes.put.Goals as goal
 
 pub returns : goal.returns
 unfolding noise_channel_bytes envelope_bytes
