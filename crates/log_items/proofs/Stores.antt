@@ -1,23 +1,29 @@
 -- Runs of stores in pieces, and bytes at the front. Assumes nothing.
 use Prim.Native.Nat.{ℕ, suc, ◌+◌, ◌≤◌}
-use mathlib.Core.Path.{◌≡◌, sym, ap, ◌∙◌}
-use mathlib.Core.List.{List, [], ◌∷◌, ◌++◌}
+use mathlib.Core.Path.{◌≡◌, refl, sym, ◌∙◌}
+use mathlib.Core.List.{List, [], ◌∷◌, ◌++◌, append_assoc}
 use native.Mathlib.Nat.{add-zero, add-suc, suc-add}
 use native.Mathlib.Omega.{arith}
-use lib.ListN.{length, set, take, replicate, length-take, length-replicate, replicate-append-replicate}
-use lib.Seq.{sets}
+use lib.ListN.{length, set, take, drop, replicate, length-take, length-drop, length-replicate}
+use lib.Seq.{sets, sets-eq}
+use borrow.Rule.Slice.PartMut.{put_mid}
+use Rattle.std.proofs.lemmas.Slice.{put_mid-paste}
+use Rattle.std.proofs.lemmas.List.Edits.{paste_all}
 
 -- one run after another
 pub sets_append : (l : List ℕ) (i : ℕ) (xs ys : List ℕ) → sets l i (xs ++ ys) ≡ sets (sets l i xs) (i + length xs) ys
 sets_append l i [] ys = rw add-zero
 sets_append l i (x ∷ xs) ys = sets_append (set l i x) (suc i) xs ys ∙ simp (suc-add, add-suc)
 
--- so many zeros, and one more
-pub zeros_more : (l : List ℕ) (at i : ℕ) → set (sets l at (replicate i 0)) (at + i) 0 ≡ sets l at (replicate (i + 1) 0)
-zeros_more l at i =
-    ap (λ (n : ℕ). set (sets l at (replicate i 0)) (at + n) 0) (sym (length-replicate i 0))
-    ∙ sym (sets_append l at (replicate i 0) (replicate 1 0))
-    ∙ ap (sets l at) (replicate-append-replicate i 1 0)
+-- a part filled with zeros, in its place
+pub zeros_filled : (l : List ℕ) (from n : ℕ) {part : List ℕ} → part ≡ replicate (length (take n (drop from l))) 0 → from + n ≤ length l
+    → put_mid from n l part ≡ sets l from (replicate n 0)
+zeros_filled l from n e h =
+    let some : length (take n (drop from l)) ≡ n = omega (arith, length-take n (drop from l), length-drop from l) in
+    let long = length-replicate n 0 in
+    put_mid-paste from n l _ (replicate n 0) n (rw some at e) refl (sym long)
+    ∙ paste_all l from (replicate n 0) n (sym long)
+    ∙ sym (rw long at (sets-eq (replicate n 0) l from (rw long h)) ∙ append_assoc (take from l) (replicate n 0) (drop (from + n) l))
 
 -- the bytes at the front of a slice are as many as were asked for
 pub prefix_counts : (n : ℕ) (xs : List ℕ) → n ≤ length xs → n ≡ length (take n xs)

@@ -87,11 +87,7 @@ fn put_zeros(out: &mut [u8], from: usize, to: usize)
     requires { (from ≤ to) × (to ≤ length out.old) }
     ensures { out.new ≡ sets out.old from (replicate (to - from) 0) }
 {
-    let mut i = from;
-    while i < to {
-        out[i] = 0;
-        i += 1;
-    }
+    out[from..to].fill(0);
 }
 
 // A frame of which every number is 0.
