@@ -42,5 +42,5 @@ pub fn bad_header(vgm: &[u8]) -> bool
     let version = four(vgm, 8);
     let start = start_of(vgm);
     let clock = four(vgm, 0x80);
-    (mark != MARK) | ((version < VERSION) | ((start < HEADER) | ((n < start) | (clock != CLOCK))))
+    (mark != MARK) | (version < VERSION) | (start < HEADER) | (n < start) | (clock != CLOCK)
 }
