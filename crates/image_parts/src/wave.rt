@@ -8,7 +8,7 @@ use crate::converter::{converter_fits, put_converter, read_converter};
 use crate::length::{length_fits, put_length, read_length};
 use channel_groups::wave_group::WaveGroup;
 use channel_wave::wave_channel::WaveChannel;
-use image_fields::bytes::{put_flag, put_one, put_pair, put_quad, put_two, two};
+use image_fields::bytes::{bytes, put_bytes, put_flag, put_one, put_two, two};
 use image_fields::codes::shift_fits;
 
 // Wave RAM into lent bytes, from a place on.
@@ -16,10 +16,7 @@ pub fn put_ram(out: &mut [u8], at: usize, ram: [u8; 16])
     requires { at + 16 ≤ length out.old }
     ensures { out.new ≡ stored out.old at (ram_bytes ram) }
 {
-    put_quad(out, at, ram[0], ram[1], ram[2], ram[3]);
-    put_quad(out, at + 4, ram[4], ram[5], ram[6], ram[7]);
-    put_quad(out, at + 8, ram[8], ram[9], ram[10], ram[11]);
-    put_quad(out, at + 12, ram[12], ram[13], ram[14], ram[15]);
+    put_bytes(out, at, &ram);
 }
 
 // The sixteen bytes there.
@@ -27,24 +24,7 @@ pub fn read_ram(s: &[u8], at: usize) -> [u8; 16]
     requires { at + 16 ≤ length s.now }
     ensures { result ≡ ram_at s.now at }
 {
-    [
-        s[at],
-        s[at + 1],
-        s[at + 2],
-        s[at + 3],
-        s[at + 4],
-        s[at + 5],
-        s[at + 6],
-        s[at + 7],
-        s[at + 8],
-        s[at + 9],
-        s[at + 10],
-        s[at + 11],
-        s[at + 12],
-        s[at + 13],
-        s[at + 14],
-        s[at + 15],
-    ]
+    bytes(s, at)
 }
 
 // Its fields into lent bytes, from a place on.
@@ -53,7 +33,7 @@ pub fn put_wave_channel(out: &mut [u8], at: usize, w: WaveChannel)
     ensures { out.new ≡ stored out.old at (wave_channel_bytes w) }
 {
     let ram = w.buffer;
-    put_pair(out, at, w.volume, w.volume_shift);
+    put_bytes(out, at, &[w.volume, w.volume_shift]);
     put_two(out, at + 2, w.frequency);
     put_ram(out, at + 4, ram);
     put_one(out, at + 20, w.buffer_position);
