@@ -6,7 +6,7 @@ ghost use Rattle.image.specs.Image.{tail_bytes, tail_fits};
 
 use apu::Apu;
 use clocks::meter::FRAME_UNITS;
-use image_fields::bytes::{eight, put_eight, put_flag, put_pair};
+use image_fields::bytes::{eight, put_bytes, put_eight, put_flag};
 use image_fields::codes::position_byte;
 use image_fields::floats::{kept, pattern64};
 
@@ -21,11 +21,11 @@ pub fn put_tail(out: &mut [u8], at: usize, unit: Apu)
 {
     let counter = pattern64(unit.sample_counter);
     let position = position_byte(unit.sequencer_position);
-    put_pair(out, at, unit.channels_control, unit.channels_selection);
+    put_bytes(out, at, &[unit.channels_control, unit.channels_selection]);
     put_flag(out, at + 2, unit.power);
     put_eight(out, at + 3, counter);
     put_flag(out, at + 11, unit.divider_sequencer_clock_bit);
-    put_pair(out, at + 12, position, unit.clocks_counter);
+    put_bytes(out, at + 12, &[position, unit.clocks_counter]);
     put_flag(out, at + 14, unit.is_dmg);
 }
 

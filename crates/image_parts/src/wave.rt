@@ -5,7 +5,7 @@ ghost use Rattle.image_parts.specs.Wave.{ram_at, ram_bytes, wave_layout};
 
 use crate::group::ChannelBytes;
 use channel_wave::wave_channel::WaveChannel;
-use image_fields::bytes::{put_flag, put_one, put_pair, put_quad, put_two, two};
+use image_fields::bytes::{bytes, put_bytes, put_flag, put_one, put_two, two};
 use image_fields::codes::shift_fits;
 
 // Wave RAM into lent bytes, from a place on.
@@ -13,10 +13,7 @@ pub fn put_ram(out: &mut [u8], at: usize, ram: [u8; 16])
     requires { at + 16 ≤ length out.old }
     ensures { out.new ≡ stored out.old at (ram_bytes ram) }
 {
-    put_quad(out, at, ram[0], ram[1], ram[2], ram[3]);
-    put_quad(out, at + 4, ram[4], ram[5], ram[6], ram[7]);
-    put_quad(out, at + 8, ram[8], ram[9], ram[10], ram[11]);
-    put_quad(out, at + 12, ram[12], ram[13], ram[14], ram[15]);
+    put_bytes(out, at, &ram);
 }
 
 // The sixteen bytes there.
@@ -24,24 +21,7 @@ pub fn read_ram(s: &[u8], at: usize) -> [u8; 16]
     requires { at + 16 ≤ length s.now }
     ensures { result ≡ ram_at s.now at }
 {
-    [
-        s[at],
-        s[at + 1],
-        s[at + 2],
-        s[at + 3],
-        s[at + 4],
-        s[at + 5],
-        s[at + 6],
-        s[at + 7],
-        s[at + 8],
-        s[at + 9],
-        s[at + 10],
-        s[at + 11],
-        s[at + 12],
-        s[at + 13],
-        s[at + 14],
-        s[at + 15],
-    ]
+    bytes(s, at)
 }
 
 impl ChannelBytes for WaveChannel {
@@ -49,7 +29,7 @@ impl ChannelBytes for WaveChannel {
 
     fn put(self, out: &mut [u8], at: usize) {
         let ram = self.buffer;
-        put_pair(out, at, self.volume, self.volume_shift);
+        put_bytes(out, at, &[self.volume, self.volume_shift]);
         put_two(out, at + 2, self.frequency);
         put_ram(out, at + 4, ram);
         put_one(out, at + 20, self.buffer_position);

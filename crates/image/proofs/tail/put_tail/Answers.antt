@@ -14,10 +14,10 @@ position_byte-position-requires c =
 pub returns : goal.returns
 unfolding tail_bytes
 returns c =
-    let to-power = onward _ _ _ _ _ c.put_pair.ensures c.put_flag.ensures refl in
+    let to-power = onward _ _ _ _ _ c.put_bytes.ensures c.put_flag.ensures refl in
     let to-counter = onward _ _ _ _ _ to-power c.put_eight.ensures refl in
     let to-divider-sequencer-clock-bit = onward _ _ _ _ _ to-counter c.put_flag-2.ensures refl in
-    let to-position = onward _ _ _ _ _ to-divider-sequencer-clock-bit c.put_pair-2.ensures refl in
+    let to-position = onward _ _ _ _ _ to-divider-sequencer-clock-bit c.put_bytes-2.ensures refl in
     let pattern = c.pattern64-counter.ensures in
     let byte = c.position_byte-position.ensures in
     let same = byte ∙ ap position_byte (read_back c.args.unit.sequencer_position c.requires.position_held) in

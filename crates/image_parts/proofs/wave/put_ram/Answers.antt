@@ -1,12 +1,21 @@
--- The fields are stored one after the other, each where the last one ends. Assumes nothing.
-use mathlib.Core.Path.{refl}
-use Rattle.image_fields.proofs.Rows.{onward}
+-- A row of sixteen is its sixteen bytes. Assumes nothing.
+use Prim.Native.Nat.{ℕ, ◌≤◌}
+use mathlib.Core.Path.{◌≡◌, sym, ap, ◌∙◌}
+use mathlib.Core.List.{List}
+use native.Mathlib.Omega.{arith}
+use lib.ListN.{length}
+use Rattle.std.proofs.Common.{rules}
+use Rattle.std.proofs.lemmas.List.{take_all}
+use Rattle.image_fields.proofs.Rows.{row_there}
+use Rattle.image_fields.specs.Bytes.{stored}
 use Rattle.image_parts.specs.Wave.{ram_bytes}
 use Rattle.image_parts.proofs.wave.put_ram.Goals as goal
 
-pub returns : goal.returns
+sixteen : (ram : List ℕ) → length ram ≡ 16 → ram ≡ ram_bytes ram
 unfolding ram_bytes
+sixteen ram e = sym (take_all 16 ram (omega arith)) ∙ row_there ram 0 16 (omega arith)
+
+pub returns : goal.returns
 returns c =
-    let to-second = onward _ _ _ _ _ c.put_quad.ensures c.put_quad-2.ensures refl in
-    let to-third = onward _ _ _ _ _ to-second c.put_quad-3.ensures refl in
-    onward _ _ _ _ _ to-third c.put_quad-4.ensures refl
+    let h : length c.args.ram ≡ 16 = search rules in
+    rw (← sixteen c.args.ram h) c.put_bytes.ensures

@@ -7,7 +7,7 @@ use Rattle.image_parts.proofs.wave.WaveChannelChannelBytes.put.Goals as goal
 pub returns : goal.returns
 unfolding wave_channel_bytes ram_bytes
 returns c =
-    let to-frequency = onward _ _ _ _ _ c.put_pair.ensures c.put_two.ensures refl in
+    let to-frequency = onward _ _ _ _ _ c.put_bytes.ensures c.put_two.ensures refl in
     let to-ram = onward _ _ _ _ _ to-frequency c.put_ram.ensures refl in
     let to-buffer-position = onward _ _ _ _ _ to-ram c.put_one.ensures refl in
     let to-buffer-position-just-clocked = onward _ _ _ _ _ to-buffer-position c.put_flag.ensures refl in
