@@ -10,6 +10,7 @@ ghost use Rattle.apu.specs.Held.{Held};
 use apu::Apu;
 use apu::registers::WrongAddress;
 use apu_clock::clock::{NoRoom, clock};
+use frame::buffers::Lent;
 use text::{print_frame, print_pcm, print_read, print_refused, print_start};
 
 // One clock call, whose frame is printed where it makes one.
@@ -27,11 +28,13 @@ fn show_clock(unit: Apu, double: bool, divider: u8) -> Apu
         double,
         divider,
         0,
-        &mut pulse1,
-        &mut pulse2,
-        &mut wave,
-        &mut noise,
-        &mut all,
+        &mut Lent {
+            pulse1: &mut pulse1,
+            pulse2: &mut pulse2,
+            wave: &mut wave,
+            noise: &mut noise,
+            all: &mut all,
+        },
     );
     match clocked.answer {
         Ok(true) => print_frame(&pulse1, &pulse2, &wave, &noise, &all),
