@@ -1,7 +1,7 @@
 // The clock call: `clock` and `push_output` of apu.rs, over five lent buffers.
 ghost use Rattle.std.specs.Prelude.{◌≡◌, ◌≤◌};
 ghost use Rattle.ground.specs.Pick.{pick};
-ghost use Rattle.frame.specs.Buffers.{five};
+ghost use Rattle.frame.specs.Lent.{lent_as, SameBuffers};
 ghost use Rattle.apu.specs.Held.{Held, FloatsHeld};
 ghost use Rattle.apu_clock.specs.Clocking.{pushed, passed, frame_of, after, worked, clock_of, no_room};
 ghost use Rattle.apu_clock.specs.Answers.{refusal_of, returned_of};
@@ -9,7 +9,7 @@ ghost use Rattle.apu_clock.specs.Answers.{refusal_of, returned_of};
 use crate::sequencer::finish;
 use apu::Apu;
 use clocks::sample_counter::{half_clocks, tick};
-use frame::buffers::{all_have_room, put_frame};
+use frame::buffers::Lent;
 use frame::mixing::{Mix, mix_of};
 
 // Refusal 2: the call makes a frame, and in one of the five lent buffers fewer than two numbers lie from the place on.
@@ -84,37 +84,18 @@ fn frame(unit: Apu, counter: f64, half: u8, double: bool, divider: u8) -> Framed
 }
 
 // A working clock, with so many half-clocks left after it.
-fn work(
-    unit: Apu,
-    half: u8,
-    double: bool,
-    divider: u8,
-    place: usize,
-    pulse1: &mut [f32],
-    pulse2: &mut [f32],
-    wave: &mut [f32],
-    noise: &mut [f32],
-    all: &mut [f32],
-) -> Clocked
+fn work(unit: Apu, half: u8, double: bool, divider: u8, place: usize, lent: &mut Lent) -> Clocked
     requires held { Held unit }
     requires half_bound { half ≤ 1 }
-    ensures { after result (five pulse1.new pulse2.new wave.new noise.new all.new)
-        ≡ worked unit half double divider place
-        (five pulse1.old pulse2.old wave.old noise.old all.old) }
+    ensures value { after result (lent_as lent.new) ≡ worked unit half double divider place (lent_as lent.old) }
+    ensures same { SameBuffers lent.old lent.new }
 {
     let ticked = tick(unit.sample_counter);
     if ticked.made {
-        if all_have_room(
-            place,
-            pulse1.len(),
-            pulse2.len(),
-            wave.len(),
-            noise.len(),
-            all.len(),
-        ) {
+        if lent.have_room(place) {
             let framed = frame(unit, ticked.counter, half, double, divider);
             let apu = framed.apu;
-            put_frame(framed.mix, place, pulse1, pulse2, wave, noise, all);
+            lent.put_frame(framed.mix, place);
             return Clocked {
                 answer: Ok(true),
                 apu,
@@ -133,23 +114,12 @@ fn work(
 }
 
 // One clock call, with the divider's byte; a frame goes to `place` and `place` + 1 of each buffer.
-pub fn clock(
-    unit: Apu,
-    double: bool,
-    divider: u8,
-    place: usize,
-    pulse1: &mut [f32],
-    pulse2: &mut [f32],
-    wave: &mut [f32],
-    noise: &mut [f32],
-    all: &mut [f32],
-) -> Clocked
+pub fn clock(unit: Apu, double: bool, divider: u8, place: usize, lent: &mut Lent) -> Clocked
     requires { Held unit }
-    ensures all_after { (after result (five pulse1.new pulse2.new wave.new noise.new all.new)
-        ≡ clock_of unit double divider place (five pulse1.old pulse2.old wave.old noise.old all.old))
-        × (refusal_of result.answer
-        ≡ pick (no_room unit double place (five pulse1.old pulse2.old wave.old noise.old all.old)) 2 0)
+    ensures all_after { (after result (lent_as lent.new) ≡ clock_of unit double divider place (lent_as lent.old))
+        × (refusal_of result.answer ≡ pick (no_room unit double place (lent_as lent.old)) 2 0)
         × (returned_of result.answer ≡ 0) }
+    ensures same { SameBuffers lent.old lent.new }
     ensures held { Held result.apu × (FloatsHeld unit → FloatsHeld result.apu) }
 {
     let half = unit.clocks_counter + half_clocks(double);
@@ -161,16 +131,5 @@ pub fn clock(
             apu: next,
         };
     }
-    work(
-        unit,
-        half - 2,
-        double,
-        divider,
-        place,
-        pulse1,
-        pulse2,
-        wave,
-        noise,
-        all,
-    )
+    work(unit, half - 2, double, divider, place, lent)
 }

@@ -2,4 +2,5 @@
 pub mod Converter  -- one channel's step
 pub mod Mixing  -- the ten numbers
 pub mod Buffers  -- where they go
+pub mod Lent  -- the same as the code lends them
 pub mod Held  -- the ranges of the floats

@@ -1,6 +1,7 @@
 // The five lent buffers: two numbers at a place of each, and nowhere else.
 ghost use Rattle.std.specs.Prelude.{◌≡◌, ◌+◌, ◌≤◌, length};
-ghost use Rattle.frame.specs.Buffers.{put, five, framed, Room, room_in, room_in_all};
+ghost use Rattle.frame.specs.Buffers.{put, framed, Room, room_in, room_for};
+ghost use Rattle.frame.specs.Lent.{lent_as, SameBuffers};
 
 use crate::mixing::{Mix, Sides};
 
@@ -14,24 +15,6 @@ pub fn has_room(len: usize, place: usize) -> bool
     place <= len - 2
 }
 
-// Whether each of five buffers of these lengths has room.
-pub fn all_have_room(
-    place: usize,
-    pulse1: usize,
-    pulse2: usize,
-    wave: usize,
-    noise: usize,
-    all: usize,
-) -> bool
-    ensures { result ≡ room_in_all place pulse1 pulse2 wave noise all }
-{
-    let first = has_room(pulse1, place);
-    let second = has_room(pulse2, place);
-    let third = has_room(wave, place);
-    let fourth = has_room(noise, place);
-    first & (second & (third & (fourth & has_room(all, place))))
-}
-
 // Right at the place and left after it.
 pub fn put_sides(buffer: &mut [f32], place: usize, sides: Sides)
     requires { place + 2 ≤ length buffer.old }
@@ -41,23 +24,38 @@ pub fn put_sides(buffer: &mut [f32], place: usize, sides: Sides)
     buffer[place + 1] = sides.left;
 }
 
-// A frame's ten numbers, a pair to each buffer.
-pub fn put_frame(
-    mix: Mix,
-    place: usize,
-    pulse1: &mut [f32],
-    pulse2: &mut [f32],
-    wave: &mut [f32],
-    noise: &mut [f32],
-    all: &mut [f32],
-)
-    requires { Room place (five pulse1.old pulse2.old wave.old noise.old all.old) }
-    ensures { five pulse1.new pulse2.new wave.new noise.new all.new
-        ≡ framed mix place (five pulse1.old pulse2.old wave.old noise.old all.old) }
-{
-    put_sides(pulse1, place, mix.pulse1);
-    put_sides(pulse2, place, mix.pulse2);
-    put_sides(wave, place, mix.wave);
-    put_sides(noise, place, mix.noise);
-    put_sides(all, place, mix.all);
+// The five buffers that a clock call is lent: one for each channel, and one for their sum.
+#[derive(Drop)]
+pub struct Lent<'a> {
+    pub pulse1: &'a mut [f32],
+    pub pulse2: &'a mut [f32],
+    pub wave: &'a mut [f32],
+    pub noise: &'a mut [f32],
+    pub all: &'a mut [f32],
+}
+
+impl Lent<'_> {
+    // Whether each buffer has room.
+    pub fn have_room(&self, place: usize) -> bool
+        ensures { result ≡ room_for place (lent_as self.now) }
+    {
+        let first = has_room(self.pulse1.len(), place);
+        let second = has_room(self.pulse2.len(), place);
+        let third = has_room(self.wave.len(), place);
+        let fourth = has_room(self.noise.len(), place);
+        first & (second & (third & (fourth & has_room(self.all.len(), place))))
+    }
+
+    // A frame's ten numbers, a pair to each buffer.
+    pub fn put_frame(&mut self, mix: Mix, place: usize)
+        requires { Room place (lent_as self.old) }
+        ensures value { lent_as self.new ≡ framed mix place (lent_as self.old) }
+        ensures same { SameBuffers self.old self.new }
+    {
+        put_sides(self.pulse1, place, mix.pulse1);
+        put_sides(self.pulse2, place, mix.pulse2);
+        put_sides(self.wave, place, mix.wave);
+        put_sides(self.noise, place, mix.noise);
+        put_sides(self.all, place, mix.all);
+    }
 }

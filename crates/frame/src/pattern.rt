@@ -7,8 +7,8 @@ ghost use Rattle.std.specs.Float.Ieee.{to_bits};
 pub fn pattern(x: f32) -> u32
     ensures { result ≡ to_bits binary32 x }
 {
-    if x != x {
+    if x.is_nan() {
         return 0x7FC0_0000;
     }
-    f32::to_bits(x)
+    x.to_bits()
 }

@@ -4,6 +4,7 @@ ghost use Rattle.apu.specs.Held.{Held};
 use apu::registers::WrongAddress;
 use apu_clock::clock::{NoRoom, clock};
 use apu_run::calls::Play;
+use frame::buffers::Lent;
 use frame::pattern::pattern;
 use log_items::items::{FRAME, PCM, READ};
 use log_player::log::start_byte;
@@ -88,11 +89,13 @@ fn play_call(p: Play, double: bool, divider: u8, out: &mut [u8]) -> Play
         double,
         divider,
         0,
-        &mut pulse1,
-        &mut pulse2,
-        &mut wave,
-        &mut noise,
-        &mut all,
+        &mut Lent {
+            pulse1: &mut pulse1,
+            pulse2: &mut pulse2,
+            wave: &mut wave,
+            noise: &mut noise,
+            all: &mut all,
+        },
     );
     let at = match clocked.answer {
         Ok(true) => put_frame(out, p.at, &pulse1, &pulse2, &wave, &noise, &all),

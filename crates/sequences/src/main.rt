@@ -11,6 +11,7 @@ use apu::Apu;
 use apu::registers::WrongAddress;
 use apu_clock::clock::{NoRoom, clock};
 use command::Command;
+use frame::buffers::Lent;
 use std::io::Read;
 use text::{Frame, print_line};
 
@@ -28,11 +29,13 @@ fn show_clock(rt: &impl Print, unit: Apu, double: bool, divider: u8) -> Apu
         double,
         divider,
         0,
-        &mut frame.pulse1,
-        &mut frame.pulse2,
-        &mut frame.wave,
-        &mut frame.noise,
-        &mut frame.all,
+        &mut Lent {
+            pulse1: &mut frame.pulse1,
+            pulse2: &mut frame.pulse2,
+            wave: &mut frame.wave,
+            noise: &mut frame.noise,
+            all: &mut frame.all,
+        },
     );
     match clocked.answer {
         Ok(true) => print_line(rt, frame),

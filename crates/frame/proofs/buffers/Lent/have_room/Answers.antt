@@ -1,6 +1,6 @@
 -- The five tests are the definition's, by what the calls ensure. Assumes nothing.
 use Rattle.frame.specs.Buffers.{room_in_all}
-use Rattle.frame.proofs.buffers.all_have_room.Goals as goal
+use Rattle.frame.proofs.buffers.Lent.have_room.Goals as goal
 
 pub returns : goal.returns
 unfolding room_in_all
