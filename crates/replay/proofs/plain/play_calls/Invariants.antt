@@ -1,10 +1,6 @@
--- Every call keeps the ranges and the output's length, and the calls left fall. Assumes nothing.
-use Prim.Native.Nat.{◌-◌}
-use Rattle.replay.proofs.Kept.{Kept}
+-- Every call keeps the ranges. Assumes nothing.
+use Rattle.apu.specs.Held.{Held}
 use Rattle.replay.proofs.plain.play_calls.Given as goal
 
 abbrev pub invariant-loop-i : goal.invariant-loop-i
-invariant-loop-i l = Kept l.q.apu l.initial.out l.out
-
-abbrev pub decreases-loop-i : goal.decreases-loop-i
-decreases-loop-i l = l.count - l.i
+invariant-loop-i g l = Held l.next
