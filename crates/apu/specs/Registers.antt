@@ -1,5 +1,5 @@
 -- What each register reads as and what a write does, from document 01, "Registers and power". `at` is the address less FF10. Assumes nothing.
-use Rattle.std.specs.Prelude.{ℕ, zero, suc, ◌+◌, ◌-◌, ◌*◌, ◌%◌, Bool, true, false, ◌||◌, eqb, ltb, leb, pos, negsuc}
+use Rattle.std.specs.Prelude.{ℕ, zero, suc, ◌+◌, ◌-◌, ◌*◌, ◌%◌, Bool, true, false, ◌||◌, eqb, ltb, leb, pos, negsuc, Result, Ok, Err}
 use Rattle.ground.specs.Pick.{pick}
 use Rattle.ground.specs.Num.{is_sound}
 use Rattle.channel_pulse.specs.Sweep as sweep
@@ -12,12 +12,8 @@ use Rattle.channel_groups.specs.NoiseGroups as noise
 use Rattle.clocks.specs.Position.{next_even}
 use Rattle.apu.specs.With.{with_pulse1, with_pulse2, with_wave, with_noise, with_groups, with_control, with_selection, with_power, with_position}
 use Rattle.apu.specs.declared.Apu.{Apu}
-use Rattle.apu.specs.declared.registers.Read.{Read}
-use Rattle.apu.specs.declared.registers.Read.TheVariants.{Byte}
-use Rattle.apu.specs.declared.registers.Read.TheVariants as read
+use Rattle.apu.specs.declared.registers.WrongAddress.{WrongAddress}
 use Rattle.apu.specs.declared.registers.Written.{Written}
-use Rattle.apu.specs.declared.registers.Write.TheVariants.{Done}
-use Rattle.apu.specs.declared.registers.Write.TheVariants as write
 
 -- ---- which group an offset is in
 
@@ -69,8 +65,8 @@ byte_at a at =
     })
 
 -- a read of any address; refusal 1 outside FF10..FF3F
-unfoldable pub read_of : Apu → ℕ → Read
-read_of a addr = pick (is_sound addr) (Byte (byte_at a (addr - 0xFF10))) read.WrongAddress
+unfoldable pub read_of : Apu → ℕ → Result ℕ WrongAddress
+read_of a addr = pick (is_sound addr) (Ok (byte_at a (addr - 0xFF10))) (Err (record {}))
 
 -- "PCM reads: pulse 2 over pulse 1; noise over wave"
 unfoldable pub pcm12_of : Apu → ℕ
@@ -155,5 +151,5 @@ written_at a at value =
 unfoldable pub write_of : Apu → ℕ → ℕ → Written
 write_of a addr value =
     pick (is_sound addr)
-    (record { answer = Done; apu = written_at a (addr - 0xFF10) value })
-    (record { answer = write.WrongAddress; apu = a })
+    (record { answer = Ok tt; apu = written_at a (addr - 0xFF10) value })
+    (record { answer = Err (record {}); apu = a })

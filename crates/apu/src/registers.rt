@@ -13,24 +13,14 @@ use crate::Apu;
 use clocks::position::next_position;
 use ground::num::{flag, is_sound};
 
-// What a read answers: the byte, or refusal 1.
+// Refusal 1: a read or write outside FF10 to FF3F.
 #[derive(Clone, Copy)]
-pub enum Read {
-    Byte(u8),
-    WrongAddress,
-}
-
-// What a write answers: done, or refusal 1.
-#[derive(Clone, Copy)]
-pub enum Write {
-    Done,
-    WrongAddress,
-}
+pub struct WrongAddress;
 
 // A write's answer, and the unit after it.
 #[derive(Clone, Copy)]
 pub struct Written {
-    pub answer: Write,
+    pub answer: Result<(), WrongAddress>,
     pub apu: Apu,
 }
 
@@ -91,14 +81,14 @@ impl Apu {
     }
 
     // A read of any address.
-    pub fn read_register(self, addr: u16) -> Read
+    pub fn read_register(self, addr: u16) -> Result<u8, WrongAddress>
         ensures { (result ≡ read_of self addr) × (refusal_of_read result ≡ pick (is_sound addr) 0 1)
             × (returned_of_read result ≡ pick (is_sound addr) (byte_at self (addr - 0xFF10)) 0) }
     {
         if is_sound(addr) {
-            Read::Byte(self.byte_at(addr - 0xFF10))
+            Ok(self.byte_at(addr - 0xFF10))
         } else {
-            Read::WrongAddress
+            Err(WrongAddress)
         }
     }
 
@@ -315,12 +305,12 @@ impl Apu {
         if is_sound(addr) {
             let next = self.write_at(addr - 0xFF10, value);
             Written {
-                answer: Write::Done,
+                answer: Ok(()),
                 apu: next,
             }
         } else {
             Written {
-                answer: Write::WrongAddress,
+                answer: Err(WrongAddress),
                 apu: self,
             }
         }

@@ -3,6 +3,7 @@ use Prim.Native.Nat.{ℕ, ◌+◌, ◌-◌, ◌<◌, ◌≤◌}
 use mathlib.Core.Path.{◌≡◌, refl, sym}
 use mathlib.Core.Bool.{Bool, true, false}
 use borrow.Author.Tests.{lt-ltb, le-ltb}
+use Rattle.std.specs.Prelude.{Result, Ok, Err}
 use Rattle.ground.specs.Pick.{pick}
 use Rattle.ground.proofs.Cases.{pick_true, pick_false, pick_holds}
 use Rattle.clocks.specs.Counter.{every_at, tick_by}
@@ -14,8 +15,7 @@ use Rattle.apu_clock.specs.Clocking.{After, answered, passed, frame_of, frame_du
 use Rattle.apu_clock.specs.Answers.{refusal_of, returned_of}
 use Rattle.apu.specs.declared.Apu.{Apu}
 use Rattle.apu_clock.specs.declared.clock.Framed.{Framed}
-use Rattle.apu_clock.specs.declared.clock.Answer.{Answer}
-use Rattle.apu_clock.specs.declared.clock.Answer.TheVariants.{Nothing, Frame, NoRoom}
+use Rattle.apu_clock.specs.declared.clock.NoRoom.{NoRoom}
 
 -- a working clock
 module _
@@ -24,22 +24,22 @@ module _
   where
     pub frame_way : (f : Framed) (c : Buffers) → t.made ≡ true → room_for place b ≡ true
         → f ≡ frame_of a t.counter half double divider → c ≡ framed f.mix place b
-        → answered Frame f.apu c ≡ worked a half double divider place b
+        → answered (Ok true) f.apu c ≡ worked a half double divider place b
     unfolding pick worked frame_due
     frame_way f c m r f-is c-is = rw (c-is, ← t-is, m, r, f-is)
 
-    pub refused_way : t.made ≡ true → room_for place b ≡ false → answered NoRoom a b ≡ worked a half double divider place b
+    pub refused_way : t.made ≡ true → room_for place b ≡ false → answered (Err (record {})) a b ≡ worked a half double divider place b
     unfolding pick worked frame_due
     refused_way m r = rw (← t-is, m, r)
 
-    pub plain_way : (n : Apu) → t.made ≡ false → n ≡ passed a t.counter half double divider → answered Nothing n b ≡ worked a half double divider place b
+    pub plain_way : (n : Apu) → t.made ≡ false → n ≡ passed a t.counter half double divider → answered (Ok false) n b ≡ worked a half double divider place b
     unfolding pick worked
     plain_way n m n-is = rw (n-is, ← t-is, m)
 
 -- the call: below 2 half-clocks it ends, else a working clock follows
 module _ (a : Apu) (double : Bool) (divider place : ℕ) (b : Buffers) (k : ℕ) (k-is : k ≡ half_clocks_of double) where
   pub short_way : a.clocks_counter + k < 2
-      → answered Nothing (with_clocks a a.sample_counter (a.clocks_counter + k)) b ≡ clock_of a double divider place b
+      → answered (Ok false) (with_clocks a a.sample_counter (a.clocks_counter + k)) b ≡ clock_of a double divider place b
   unfolding pick clock_of
   short_way h = rw (← k-is, lt-ltb (a.clocks_counter + k) 2 h)
 
@@ -70,7 +70,6 @@ pub told : (a : Apu) (double : Bool) (divider place : ℕ) (b : Buffers) (r : Af
 told a double divider place b r e = rw e (refusal_is a double divider place b)
 
 -- the number returned is 0, whatever the answer
-pub returned_is : (r : Answer) → returned_of r ≡ 0
-returned_is Nothing = refl
-returned_is Frame = refl
-returned_is NoRoom = refl
+pub returned_is : (r : Result Bool NoRoom) → returned_of r ≡ 0
+returned_is (Ok made) = refl
+returned_is (Err full) = refl

@@ -7,6 +7,7 @@ use Prim.Native.Nat.{ℕ, zero, suc, ◌+◌, ◌-◌, ◌*◌, ◌/◌, ◌^◌
 use native.Mathlib.Omega.{arith}
 use lib.Dec.{ltb}
 use lib.Ieee.{Float, of_bits}
+use Rattle.std.specs.Prelude.{Result, Ok, Err}
 use Rattle.ground.specs.Pick.{pick}
 use Rattle.ground.proofs.Cases.{pick_holds, pick_false}
 use Rattle.clocks.specs.Counter.{every_at, tick_by}
@@ -26,14 +27,8 @@ use Rattle.apu_clock.specs.Answers.{refusal_of}
 use Rattle.apu_clock.specs.Demand3.{start_of, Demand3, meter_of, KeptConserved}
 use Rattle.apu_clock.specs.Uses.{Use, read, write, pcm12, pcm34, clock, State, counted, step, read_kind, write_kind, clock_kind, kind, see}
 use Rattle.apu.specs.declared.Apu.{Apu}
-use Rattle.apu.specs.declared.registers.Read.{Read}
-use Rattle.apu.specs.declared.registers.Read.TheVariants.{Byte}
-use Rattle.apu.specs.declared.registers.Read.TheVariants as reads
-use Rattle.apu.specs.declared.registers.Write.{Write}
-use Rattle.apu.specs.declared.registers.Write.TheVariants.{Done}
-use Rattle.apu.specs.declared.registers.Write.TheVariants as writes
-use Rattle.apu_clock.specs.declared.clock.Answer.{Answer}
-use Rattle.apu_clock.specs.declared.clock.Answer.TheVariants.{Nothing, Frame, NoRoom}
+use Rattle.apu.specs.declared.registers.WrongAddress.{WrongAddress}
+use Rattle.apu_clock.specs.declared.clock.NoRoom.{NoRoom}
 use Rattle.apu.proofs.Untouched.{write_untouched}
 use Rattle.apu_clock.proofs.Untouched.{finish_untouched}
 use Rattle.apu_clock.proofs.Calling.{told}
@@ -43,13 +38,13 @@ abbrev pub n : Float
 n = every_at 44100
 
 -- reads and writes leave the clocks
-read_leaves : (r : Read) (m : Clocks) → call n (read_kind r) m ≡ m
-read_leaves (Byte b) m = refl
-read_leaves reads.WrongAddress m = refl
+read_leaves : (r : Result ℕ WrongAddress) (m : Clocks) → call n (read_kind r) m ≡ m
+read_leaves (Ok b) m = refl
+read_leaves (Err wrong) m = refl
 
-write_leaves : (w : Write) (m : Clocks) → call n (write_kind w) m ≡ m
-write_leaves Done m = refl
-write_leaves writes.WrongAddress m = refl
+write_leaves : (w : Result Unit WrongAddress) (m : Clocks) → call n (write_kind w) m ≡ m
+write_leaves (Ok done) m = refl
+write_leaves (Err wrong) m = refl
 
 pub write_seen : (addr v : ℕ) (s : State) → see (step (write addr v) s) ≡ see s
 unfolding step
@@ -83,12 +78,12 @@ Law a f d r = after r f ≡ call n (clock_kind d r.clocked.answer) (before a f)
 
 module _ (a : Apu) (f : ℕ) (d : Bool) (v place : ℕ) (b : Buffers) (long : ltb (a.clocks_counter + half_clocks_of d) 2 ≡ false) where
   framed_law : (tick_by n a.sample_counter).made ≡ true → (c : Buffers)
-      → Law a f d (answered Frame (frame_of a (tick_by n a.sample_counter).counter (a.clocks_counter + half_clocks_of d - 2) d v).apu c)
+      → Law a f d (answered (Ok true) (frame_of a (tick_by n a.sample_counter).counter (a.clocks_counter + half_clocks_of d - 2) d v).apu c)
   unfolding frame_of
   framed_law m c = rw (passed_half (pushed a).apu _ _ d v, passed_counter (pushed a).apu _ _ d v, at-speed d (before a f), long, m)
 
   plain_law : (tick_by n a.sample_counter).made ≡ false
-      → Law a f d (answered Nothing (passed a (tick_by n a.sample_counter).counter (a.clocks_counter + half_clocks_of d - 2) d v) b)
+      → Law a f d (answered (Ok false) (passed a (tick_by n a.sample_counter).counter (a.clocks_counter + half_clocks_of d - 2) d v) b)
   plain_law m = rw (passed_half a _ _ d v, passed_counter a _ _ d v, at-speed d (before a f), long, m)
 
   worked_law : Law a f d (worked a (a.clocks_counter + half_clocks_of d - 2) d v place b)
@@ -161,10 +156,9 @@ room_kind a d v place b e = accepted (clock_of a d v place b).clocked.answer (to
     no_way true = refl
     no_way false = refl
 
-    accepted : (x : Answer) → refusal_of x ≡ 0 → clock_kind d x ≡ at_speed d
-    accepted Nothing e = refl
-    accepted Frame e = refl
-    accepted NoRoom e = absurd (omega (arith, e))
+    accepted : (x : Result Bool NoRoom) → refusal_of x ≡ 0 → clock_kind d x ≡ at_speed d
+    accepted (Ok made) e = refl
+    accepted (Err full) e = absurd (omega (arith, e))
 
 room_kinds : (d : Bool) (v place : ℕ) (b : Buffers) → room_for place b ≡ true → (k : ℕ) (s : State)
     → kinds kind step (times k (clock d v place b)) s ≡ times k (at_speed d)

@@ -1,5 +1,5 @@
 -- The clock call, from document 01, "Steps of a clock call". Assumes nothing.
-use Rattle.std.specs.Prelude.{ℕ, ◌+◌, ◌-◌, Bool, not, ◌&&◌, ltb, List, [], ◌∷◌, Float}
+use Rattle.std.specs.Prelude.{ℕ, ◌+◌, ◌-◌, Bool, true, false, not, ◌&&◌, ltb, List, [], ◌∷◌, Float, Result, Ok, Err}
 use Rattle.std.specs.Float.{binary32}
 use Rattle.std.specs.Float.Ieee.{of_bits}
 use Rattle.ground.specs.Pick.{pick}
@@ -15,8 +15,7 @@ use Rattle.apu_clock.specs.Sequencer.{finished}
 use Rattle.apu.specs.declared.Apu.{Apu}
 use Rattle.apu_clock.specs.declared.clock.Framed.{Framed}
 use Rattle.apu_clock.specs.declared.clock.Clocked.{Clocked}
-use Rattle.apu_clock.specs.declared.clock.Answer.{Answer}
-use Rattle.apu_clock.specs.declared.clock.Answer.TheVariants.{Nothing, Frame, NoRoom}
+use Rattle.apu_clock.specs.declared.clock.NoRoom.{NoRoom}
 
 -- a frame: every converter steps, and the ten numbers
 unfoldable pub pushed : Apu → Framed
@@ -30,7 +29,7 @@ pushed a =
       mix = mixed p.sides q.sides w.sides n.sides;
     }
 
--- all that a clock call leaves: its answer with the unit, and the five buffers
+-- all that a clock call leaves: its answer (whether it made a frame, or the refusal) with the unit, and the five buffers
 pub record After : Type 0 where
   pub clocked : Clocked
   pub buffers : Buffers
@@ -38,7 +37,7 @@ pub record After : Type 0 where
 abbrev pub after : Clocked → Buffers → After
 after r b = record { clocked = r; buffers = b }
 
-abbrev pub answered : Answer → Apu → Buffers → After
+abbrev pub answered : Result Bool NoRoom → Apu → Buffers → After
 answered answer a b = after (record { answer = answer; apu = a }) b
 
 -- what follows the sample counter, with `counter` and `half` kept
@@ -53,7 +52,7 @@ frame_of a counter half double divider = record { apu = passed (pushed a).apu co
 unfoldable pub frame_due : Apu → Float → ℕ → Bool → ℕ → ℕ → Buffers → After
 frame_due a counter half double divider place b =
     let f = frame_of a counter half double divider in
-    pick (room_for place b) (answered Frame f.apu (framed f.mix place b)) (answered NoRoom a b)
+    pick (room_for place b) (answered (Ok true) f.apu (framed f.mix place b)) (answered (Err (record {})) a b)
 
 -- "a working clock follows": `half` half-clocks are left
 unfoldable pub worked : Apu → ℕ → Bool → ℕ → ℕ → Buffers → After
@@ -61,13 +60,13 @@ worked a half double divider place b =
     let ticked = tick_by (every_at 44100) a.sample_counter in
     pick ticked.made
     (frame_due a ticked.counter half double divider place b)
-    (answered Nothing (passed a ticked.counter half double divider) b)
+    (answered (Ok false) (passed a ticked.counter half double divider) b)
 
 -- "Normal speed adds 2 half-clocks, double speed 1. Below 2, the call ends; else 2 are taken off and a working clock follows"
 unfoldable pub clock_of : Apu → Bool → ℕ → ℕ → Buffers → After
 clock_of a double divider place b =
     let half = a.clocks_counter + half_clocks_of double in
-    pick (ltb half 2) (answered Nothing (with_clocks a a.sample_counter half) b) (worked a (half - 2) double divider place b)
+    pick (ltb half 2) (answered (Ok false) (with_clocks a a.sample_counter half) b) (worked a (half - 2) double divider place b)
 
 -- whether this call makes a frame: a working clock follows, and its counter comes to N
 abbrev pub makes_frame : Apu → Bool → Bool

@@ -1,19 +1,13 @@
 -- Any use of the unit: the calls that there are, what each makes of the unit and its frames, and how its clocks see it.
 -- Demand 3 speaks of these. Assumes nothing.
-use Rattle.std.specs.Prelude.{Bool, List, [], ◌∷◌, ℕ, ◌+◌, ◌≤◌}
+use Rattle.std.specs.Prelude.{Bool, true, false, List, [], ◌∷◌, ℕ, ◌+◌, ◌≤◌, Result, Ok, Err}
 use Rattle.clocks.specs.Calls.{Call, at_speed, other, refused, Clocks}
 use Rattle.frame.specs.Buffers.{Buffers}
 use Rattle.apu.specs.Registers.{read_of, write_of}
 use Rattle.apu_clock.specs.Clocking.{clock_of}
 use Rattle.apu.specs.declared.Apu.{Apu}
-use Rattle.apu.specs.declared.registers.Read.{Read}
-use Rattle.apu.specs.declared.registers.Read.TheVariants.{Byte}
-use Rattle.apu.specs.declared.registers.Read.TheVariants as reads
-use Rattle.apu.specs.declared.registers.Write.{Write}
-use Rattle.apu.specs.declared.registers.Write.TheVariants.{Done}
-use Rattle.apu.specs.declared.registers.Write.TheVariants as writes
-use Rattle.apu_clock.specs.declared.clock.Answer.{Answer}
-use Rattle.apu_clock.specs.declared.clock.Answer.TheVariants.{Nothing, Frame, NoRoom}
+use Rattle.apu.specs.declared.registers.WrongAddress.{WrongAddress}
+use Rattle.apu_clock.specs.declared.clock.NoRoom.{NoRoom}
 
 -- a read and a write at an address, the two PCM reads, and a clock call with speed, divider, place and whatever is lent
 pub data Use : Type 0 where
@@ -42,10 +36,10 @@ pub record State : Type 0 where
   pub frames : ℕ
 
 -- one frame more where one was made
-abbrev pub counted : Answer → ℕ → ℕ
-counted Nothing frames = frames
-counted Frame frames = frames + 1
-counted NoRoom frames = frames
+abbrev pub counted : Result Bool NoRoom → ℕ → ℕ
+counted (Ok false) frames = frames
+counted (Ok true) frames = frames + 1
+counted (Err full) frames = frames
 
 -- what a use makes: the unit's own definitions
 unfoldable pub step : Use → State → State
@@ -58,18 +52,17 @@ step (clock double divider place b) s =
     record { apu = r.apu; frames = counted r.answer s.frames }
 
 -- accepted or refused, by the answer
-abbrev pub read_kind : Read → Call
-read_kind (Byte b) = other
-read_kind reads.WrongAddress = refused
+abbrev pub read_kind : Result ℕ WrongAddress → Call
+read_kind (Ok b) = other
+read_kind (Err wrong) = refused
 
-abbrev pub write_kind : Write → Call
-write_kind Done = other
-write_kind writes.WrongAddress = refused
+abbrev pub write_kind : Result Unit WrongAddress → Call
+write_kind (Ok done) = other
+write_kind (Err wrong) = refused
 
-abbrev pub clock_kind : Bool → Answer → Call
-clock_kind double Nothing = at_speed double
-clock_kind double Frame = at_speed double
-clock_kind double NoRoom = refused
+abbrev pub clock_kind : Bool → Result Bool NoRoom → Call
+clock_kind double (Ok made) = at_speed double
+clock_kind double (Err full) = refused
 
 -- how the clocks see a use
 unfoldable pub kind : Use → State → Call

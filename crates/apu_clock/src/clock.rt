@@ -12,18 +12,14 @@ use clocks::sample_counter::{half_clocks, tick};
 use frame::buffers::{all_have_room, put_frame};
 use frame::mixing::{Mix, mix_of};
 
-// What a clock call answers: no frame made, a frame made, or refusal 2.
+// Refusal 2: the call makes a frame, and in one of the five lent buffers fewer than two numbers lie from the place on.
 #[derive(Clone, Copy)]
-pub enum Answer {
-    Nothing,
-    Frame,
-    NoRoom,
-}
+pub struct NoRoom;
 
-// A clock call's answer, and the unit after it.
+// Whether a clock call made a frame, and the unit after it.
 #[derive(Clone, Copy)]
 pub struct Clocked {
-    pub answer: Answer,
+    pub answer: Result<bool, NoRoom>,
     pub apu: Apu,
 }
 
@@ -120,18 +116,18 @@ fn work(
             let apu = framed.apu;
             put_frame(framed.mix, place, pulse1, pulse2, wave, noise, all);
             return Clocked {
-                answer: Answer::Frame,
+                answer: Ok(true),
                 apu,
             };
         }
         return Clocked {
-            answer: Answer::NoRoom,
+            answer: Err(NoRoom),
             apu: unit,
         };
     }
     let apu = pass(unit, ticked.counter, half, double, divider);
     Clocked {
-        answer: Answer::Nothing,
+        answer: Ok(false),
         apu,
     }
 }
@@ -161,7 +157,7 @@ pub fn clock(
         let mut next = unit;
         next.clocks_counter = half;
         return Clocked {
-            answer: Answer::Nothing,
+            answer: Ok(false),
             apu: next,
         };
     }

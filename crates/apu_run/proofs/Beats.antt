@@ -18,7 +18,7 @@ use Rattle.apu.specs.declared.Apu.{Apu}
 use Rattle.apu_clock.specs.Sequencer.{bit_of, lengths_clocked, sweep_clocked, envelopes_clocked, advanced, sequenced, channels_clocked, finished}
 use Rattle.apu_clock.specs.Clocking.{After, pushed, passed, frame_of, clock_of}
 use Rattle.apu_clock.specs.Clocking as clocking
-use Rattle.apu_clock.specs.declared.clock.Answer.TheVariants.{Nothing}
+use Rattle.std.specs.Prelude.{Ok}
 use Rattle.apu_run.specs.Working.{passing, working, working_bytes, Take}
 use Rattle.apu_clock.specs.Clocking.{lent}
 use Rattle.apu_run.specs.Calls.{answer_bytes, call_bytes, call_unit}
@@ -99,7 +99,7 @@ module _ (double : Bool) (divider : ℕ) where
       zero₃₂ = of_bits binary32 0
 
       go : (m : Bool)
-          → left t (pick m (clocking.frame_due a c h double divider 0 lent) (clocking.answered Nothing (passed a c h double divider) lent))
+          → left t (pick m (clocking.frame_due a c h double divider 0 lent) (clocking.answered (Ok false) (passed a c h double divider) lent))
           ≡ record {
             apu = with_half (bit_stored bit (passing (with_clocks (pick m f a) c a.clocks_counter))) h;
             bytes = t.bytes ++ pick m (mix_item (pushed a).mix) [];
@@ -126,7 +126,7 @@ call-by double divider t = go (ltb half 2)
     half = a.clocks_counter + half_clocks_of double
 
     go : (b : Bool)
-        → left t (pick b (clocking.answered Nothing (with_clocks a a.sample_counter half) lent) (clocking.worked a (half - 2) double divider 0 lent))
+        → left t (pick b (clocking.answered (Ok false) (with_clocks a a.sample_counter half) lent) (clocking.worked a (half - 2) double divider 0 lent))
         ≡ pick b (with_halves t half) (with_halves (beaten (bit_of double divider) t) (half - 2))
     go true = ap (λ (l : List ℕ). record { apu = with_half a half; bytes = l }) (append-nil t.bytes)
     go false = worked_is double divider t (half - 2)

@@ -1,14 +1,13 @@
 -- The clock calls of a record: the bytes that they make and the unit after them, from document 01, "Steps of a clock call" and
 -- "The access log". Assumes nothing.
-use Rattle.std.specs.Prelude.{ℕ, zero, suc, ◌+◌, Bool, List, [], ◌++◌, length}
+use Rattle.std.specs.Prelude.{ℕ, zero, suc, ◌+◌, Bool, true, false, List, [], ◌++◌, length, Result, Ok, Err}
 use Rattle.frame.specs.Buffers.{Buffers}
 use Rattle.log_records.specs.Divider.{divider_at}
 use Rattle.log_records.specs.declared.divider.Divider.{Divider}
 use Rattle.log_items.specs.Items.{frame_item}
 use Rattle.apu_clock.specs.Clocking.{After, clock_of, lent}
 use Rattle.apu.specs.declared.Apu.{Apu}
-use Rattle.apu_clock.specs.declared.clock.Answer.{Answer}
-use Rattle.apu_clock.specs.declared.clock.Answer.TheVariants.{Nothing, Frame, NoRoom}
+use Rattle.apu_clock.specs.declared.clock.NoRoom.{NoRoom}
 use Rattle.apu_run.specs.declared.calls.Play.{Play}
 
 -- ---- a clock call
@@ -18,10 +17,10 @@ abbrev pub called : Bool → ℕ → Apu → After
 called double divider a = clock_of a double divider 0 lent
 
 -- "per frame hex 46 and ten f32 patterns"
-abbrev pub answer_bytes : Answer → Buffers → List ℕ
-answer_bytes Nothing b = []
-answer_bytes Frame b = frame_item b
-answer_bytes NoRoom b = []
+abbrev pub answer_bytes : Result Bool NoRoom → Buffers → List ℕ
+answer_bytes (Ok false) b = []
+answer_bytes (Ok true) b = frame_item b
+answer_bytes (Err full) b = []
 
 -- the bytes that a call makes, and the unit after it
 unfoldable pub call_bytes : Bool → ℕ → Apu → List ℕ

@@ -51,7 +51,7 @@ fn step_some(register: u32, narrow: bool, times: u32) -> u32
     }
 }
 
-// The register after a step.
+// The register after a step: x, which is 1 where bits 0 and 1 differ, comes in at bit 14, in 7-bit mode at bit 6 too.
 pub fn step_one(register: u32, narrow: bool) -> u32
     requires { register ≤ 0x7FFF }
     ensures value { result ≡ stepped_register register narrow }

@@ -1,10 +1,11 @@
 // The noise channel: `NoiseChannel` of noise_channel.rs, with its on/off rules from channel.rs.
 ghost use Rattle.std.specs.Prelude.{◌≡◌, ◌≤◌};
-ghost use Rattle.channel_noise.specs.Noise.{Held, fresh, written, byte_of, dac_set, enveloped, reload_of, feedback_of, put_bit};
-ghost use Rattle.channel_noise.specs.Noise.{stepped_register, clocked, triggered, output_of, muted_of};
+ghost use Rattle.channel_noise.specs.Noise.{Held, fresh, written, byte_of, dac_set, enveloped, reload_of};
+ghost use Rattle.channel_noise.specs.Noise.{clocked, triggered, output_of, muted_of};
 ghost use Rattle.channel_noise.specs.With.{with_on};
 ghost use Rattle.channel_noise.specs.Phase.{NoisePhaseHeld, noise_phase_of, with_noise_phase};
 
+use crate::feedback::step_one;
 use crate::phase::NoisePhase;
 use crate::reloads::reload_at;
 use channel_parts::envelope::Envelope;
@@ -21,39 +22,6 @@ pub struct NoiseChannel {
     pub envelope: Envelope,
     pub channel_enabled: bool,
     pub dac_enable: bool,
-}
-
-// The bit that a step feeds back: 1 where bits 0 and 1 differ.
-fn feedback_bit(register: u16) -> u16
-    ensures value { result ≡ feedback_of register }
-    ensures upper_bound { result ≤ 1 }
-{
-    flag(register % 2 != register / 2 % 2, 1)
-}
-
-// The register with x as its bit 14.
-fn put_bit_14(register: u16, x: u16) -> u16
-    requires { x ≤ 1 }
-    ensures { result ≡ put_bit 14 x register }
-{
-    register / 32768 * 32768 + x * 16384 + register % 16384
-}
-
-// The register with x as its bit 6.
-fn put_bit_6(register: u16, x: u16) -> u16
-    requires { x ≤ 1 }
-    ensures { result ≡ put_bit 6 x register }
-{
-    register / 128 * 128 + x * 64 + register % 64
-}
-
-// The register after a step.
-fn clock_feedback_register(register: u16, narrow: bool) -> u16
-    ensures { result ≡ stepped_register register narrow }
-{
-    let x = feedback_bit(register);
-    let wide = put_bit_14(register / 2, x);
-    if narrow { put_bit_6(wide, x) } else { wide }
 }
 
 impl NoiseChannel {
@@ -138,10 +106,8 @@ impl NoiseChannel {
     {
         let mut next = self;
         if self.frequency_timer == 0 {
-            next.feedback_shift_register = clock_feedback_register(
-                self.feedback_shift_register,
-                self.step_mode_7_bits,
-            );
+            let register = self.feedback_shift_register as u32;
+            next.feedback_shift_register = step_one(register, self.step_mode_7_bits) as u16;
             next.frequency_timer = self.get_frequency();
             next
         } else {

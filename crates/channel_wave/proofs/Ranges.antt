@@ -8,12 +8,11 @@ use native.Mathlib.Nat.{le_trans}
 use native.Mathlib.Omega.{arith}
 use lib.Pow.{shr_le}
 use lib.ListN.{length, length-set, length-replicate}
+use Rattle.std.specs.Prelude.{Option, Some, None}
 use Rattle.ground.proofs.Cases.{both_ways}
 use Rattle.channel_wave.specs.Wave as wave
 use Rattle.channel_wave.specs.With as with
 use Rattle.channel_wave.specs.declared.wave_channel.WaveChannel.{WaveChannel}
-use Rattle.channel_wave.specs.declared.wave_channel.BufferIndex.{BufferIndex}
-use Rattle.channel_wave.specs.declared.wave_channel.BufferIndex.TheVariants.{At, Nowhere}
 
 -- the stored shift, whichever of the two it is
 shift_table : (v : ℕ) → wave.shift_of v ≤ 4
@@ -31,9 +30,9 @@ pub shift_le : (w : WaveChannel) → wave.Held w → w.volume_shift ≤ 4
 shift_le w h = shift_of_held w.volume w.volume_shift h.shift
 
 -- an access lands within wave RAM
-abbrev pub Lands : BufferIndex → Type 0
-Lands (At i) = i < 16
-Lands Nowhere = Unit
+abbrev pub Lands : Option ℕ → Type 0
+Lands (Some i) = i < 16
+Lands None = Unit
 
 pub index_lands : (w : WaveChannel) (dmg : Bool) (offset : ℕ) → Lands (wave.index_of w dmg offset)
 unfolding wave.index_of
@@ -83,9 +82,9 @@ module _ (w : WaveChannel) (h : wave.Held w) where
   pub wave_dac_held : (dac : Bool) → wave.Held (wave.dac_set w dac)
   wave_dac_held dac = on_dac_held _ dac
 
-  stored_length : (i : BufferIndex) (v : ℕ) → length (wave.stored_in w.buffer i v) ≡ 16
-  stored_length (At i) v = simp length-set h.buffer
-  stored_length Nowhere v = h.buffer
+  stored_length : (i : Option ℕ) (v : ℕ) → length (wave.stored_in w.buffer i v) ≡ 16
+  stored_length (Some i) v = simp length-set h.buffer
+  stored_length None v = h.buffer
 
   pub wave_stored_held : (dmg : Bool) (offset v : ℕ) → wave.Held (wave.stored w dmg offset v)
   unfolding wave.stored

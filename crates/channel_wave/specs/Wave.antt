@@ -1,11 +1,9 @@
 -- The rules of the wave channel, from document 01, "Channel rules". Assumes nothing.
 use Rattle.std.specs.Prelude.{ℕ, ◌+◌, ◌-◌, ◌*◌, ◌/◌, ◌%◌, ◌^◌, ◌≤◌, ◌≡◌, ◌⊎◌, Bool, true, false, not, ◌&&◌, ◌||◌}
-use Rattle.std.specs.Prelude.{List, eqb, leb, length, get_or, set, replicate}
+use Rattle.std.specs.Prelude.{Option, Some, None, List, eqb, leb, length, get_or, set, replicate}
 use Rattle.ground.specs.Pick.{pick}
 use Rattle.channel_wave.specs.With.{with_volume, with_buffer, with_position_and_timer, with_on, with_dac}
 use Rattle.channel_wave.specs.declared.wave_channel.WaveChannel.{WaveChannel}
-use Rattle.channel_wave.specs.declared.wave_channel.BufferIndex.{BufferIndex}
-use Rattle.channel_wave.specs.declared.wave_channel.BufferIndex.TheVariants.{At, Nowhere}
 
 -- "shifted right by 4, 0, 1, 2 for volume 0 to 3"
 unfoldable pub shift_of : ℕ → ℕ
@@ -48,24 +46,24 @@ abbrev pub dac_set : WaveChannel → Bool → WaveChannel
 dac_set w dac = with_on (with_dac w dac) (w.channel_enable && dac)
 
 -- "Wave RAM with DAC and channel on: byte position/2, whichever address; on DMG only if just clocked"; with either off, the byte of the address
-unfoldable pub index_of : WaveChannel → Bool → ℕ → BufferIndex
+unfoldable pub index_of : WaveChannel → Bool → ℕ → Option ℕ
 index_of w dmg offset =
     pick (w.dac_enable && w.channel_enable)
-    (pick (dmg && not w.buffer_position_just_clocked) Nowhere (At (w.buffer_position / 2 % 16)))
-    (At (offset % 16))
+    (pick (dmg && not w.buffer_position_just_clocked) None (Some (w.buffer_position / 2 % 16)))
+    (Some (offset % 16))
 
 -- "else reads give FF"
-abbrev pub byte_in : List ℕ → BufferIndex → ℕ
-byte_in buffer (At i) = get_or buffer i 0
-byte_in buffer Nowhere = 0xFF
+abbrev pub byte_in : List ℕ → Option ℕ → ℕ
+byte_in buffer (Some i) = get_or buffer i 0
+byte_in buffer None = 0xFF
 
 unfoldable pub byte_at : WaveChannel → Bool → ℕ → ℕ
 byte_at w dmg offset = byte_in w.buffer (index_of w dmg offset)
 
 -- "and writes nothing"
-abbrev pub stored_in : List ℕ → BufferIndex → ℕ → List ℕ
-stored_in buffer (At i) value = set buffer i value
-stored_in buffer Nowhere value = buffer
+abbrev pub stored_in : List ℕ → Option ℕ → ℕ → List ℕ
+stored_in buffer (Some i) value = set buffer i value
+stored_in buffer None value = buffer
 
 unfoldable pub stored : WaveChannel → Bool → ℕ → ℕ → WaveChannel
 stored w dmg offset value = with_buffer w (stored_in w.buffer (index_of w dmg offset) value)

@@ -23,13 +23,6 @@ pub struct WaveChannel {
     pub dac_enable: bool,
 }
 
-// Where in wave RAM an access lands.
-#[derive(Clone, Copy)]
-pub enum BufferIndex {
-    At(usize),
-    Nowhere,
-}
-
 // How far a nibble is shifted right at a volume.
 fn shift_of(volume: u8) -> u8
     ensures { result ≡ shift_of volume }
@@ -133,20 +126,20 @@ impl WaveChannel {
         next
     }
 
-    // While it plays, an access lands at the byte that sounds, on DMG only if that was just clocked; else at the address.
-    pub fn wave_buffer_index(self, dmg: bool, offset: u8) -> BufferIndex
+    // Where in wave RAM an access lands: while it plays at the byte that sounds, on DMG only if that was just clocked; else at the address.
+    pub fn wave_buffer_index(self, dmg: bool, offset: u8) -> Option<usize>
         ensures { result ≡ index_of self dmg offset }
     {
         let here = (self.buffer_position / 2 % 16) as usize;
         let there = (offset % 16) as usize;
         if self.dac_enable & self.channel_enable {
             if dmg & !self.buffer_position_just_clocked {
-                BufferIndex::Nowhere
+                None
             } else {
-                BufferIndex::At(here)
+                Some(here)
             }
         } else {
-            BufferIndex::At(there)
+            Some(there)
         }
     }
 
@@ -156,8 +149,8 @@ impl WaveChannel {
     {
         let buffer = self.buffer;
         match self.wave_buffer_index(dmg, offset) {
-            BufferIndex::At(i) => buffer[i],
-            BufferIndex::Nowhere => 0xFF,
+            Some(i) => buffer[i],
+            None => 0xFF,
         }
     }
 
@@ -165,14 +158,11 @@ impl WaveChannel {
     pub fn write_buffer(self, dmg: bool, offset: u8, value: u8) -> WaveChannel
         ensures { result ≡ stored self dmg offset value }
     {
-        match self.wave_buffer_index(dmg, offset) {
-            BufferIndex::At(i) => {
-                let mut next = self;
-                next.buffer[i] = value;
-                next
-            }
-            BufferIndex::Nowhere => self,
+        let mut next = self;
+        if let Some(i) = self.wave_buffer_index(dmg, offset) {
+            next.buffer[i] = value;
         }
+        next
     }
 
     // What the timer reloads to.

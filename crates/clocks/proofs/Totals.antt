@@ -70,25 +70,22 @@ module _ (m : Meter) where
     rest_more = ap (λ (x : ℕ). x % K) pairs ∙ (in_pieces (units_at d) ((halves_at d % 2 + n) / 2 * 2 ^ 48)).1
 
 -- the loop's invariant: meter and frames are those of the half-clocks passed from the first meter on
-pub record Going (start : Meter) (halves left : ℕ) (m : Meter) (f : ℕ) : Type 0 where
+pub record Going (start : Meter) (passed : ℕ) (m : Meter) (f : ℕ) : Type 0 where
   pub first : Held K start
-  pub within : left ≤ halves
-  pub half : m.half ≡ halves_at start (halves - left) % 2
-  pub rest : m.rest ≡ units_at start (halves - left) % K
-  pub frames : f ≡ frames_from 48 K start (halves - left)
+  pub half : m.half ≡ halves_at start passed % 2
+  pub rest : m.rest ≡ units_at start passed % K
+  pub frames : f ≡ frames_from 48 K start passed
 
-pub begun : (start : Meter) (halves : ℕ) → Held K start → Going start halves halves start 0
+pub begun : (start : Meter) → Held K start → Going start 0 start 0
 unfolding frames_from
-begun start halves h =
-    let z : halves - halves ≡ 0 = omega arith in
+begun start h =
     let w : (start.half + 0) / 2 ≡ 0 = few start.half h.half in
     let e : start.rest + 0 * 2 ^ 48 ≡ start.rest = ap (λ (x : ℕ). start.rest + x) (zero-mul (2 ^ 48)) ∙ add-zero start.rest in
     record {
       first = h;
-      within = omega arith;
-      half = rw z (same start.half h.half);
-      rest = rw (z, w, e, mod-eq_of_lt h.rest);
-      frames = rw (z, w, e, div-eq_of_lt h.rest);
+      half = same start.half h.half;
+      rest = rw (w, e, mod-eq_of_lt h.rest);
+      frames = rw (w, e, div-eq_of_lt h.rest);
     }
   where
     few : (g : ℕ) → g < 2 → (g + 0) / 2 ≡ 0
@@ -97,33 +94,22 @@ begun start halves h =
     same : (g : ℕ) → g < 2 → g ≡ (g + 0) % 2
     same g h = omega arith
 
-module _ {start : Meter} {halves left : ℕ} {m : Meter} {f : ℕ} (g : Going start halves left m f) where
+module _ {start : Meter} {passed : ℕ} {m : Meter} {f : ℕ} (g : Going start passed m f) where
   pub held : Held K m
   held = record { half = rw g.half (mod-lt _ (lit< tt)); rest = rw g.rest (mod-lt _ (lit< tt)) }
 
-  module _ (n : ℕ) (h : n ≤ left) where
-    passed : halves - (left - n) ≡ halves - left + n
-    passed = let w = g.within in omega arith
-
-    pub turn : Going start halves (left - n) (metered 48 K m true n).meter (f + (metered 48 K m true n).frames)
-    turn =
-        record {
-          first = g.first;
-          within = let w = g.within in omega arith;
-          half = rw (passed, g.half) (parity start.half (halves - left) n);
-          rest = rw (passed, g.half, g.rest, rest_more start (halves - left) n);
-          frames = rw (passed, g.half, g.rest, g.frames, frames_more start (halves - left) n);
-        }
-      where
-        parity : (s d n : ℕ) → ((s + d) % 2 + n) % 2 ≡ (s + (d + n)) % 2
-        parity s d n = omega arith
-
-    -- the frames so far are no more than the half-clocks
-    pub few : (r : Metered) → r ≡ metered 48 K m true n → f + r.frames ≤ halves
-    few r e = rw e (let w = g.within in let l = turn.frames in let b = frames_le start (halves - (left - n)) g.first in omega arith)
-
-  pub ended : left ≡ 0 → f ≡ frames_from 48 K start halves
-  ended z = g.frames ∙ ap (frames_from 48 K start) (rest z)
+  pub turn : (n : ℕ) → Going start (passed + n) (metered 48 K m true n).meter (f + (metered 48 K m true n).frames)
+  turn n =
+      record {
+        first = g.first;
+        half = rw g.half (parity start.half passed n);
+        rest = rw (g.half, g.rest, rest_more start passed n);
+        frames = rw (g.half, g.rest, g.frames, frames_more start passed n);
+      }
     where
-      rest : left ≡ 0 → halves - left ≡ halves
-      rest z = omega arith
+      parity : (s d n : ℕ) → ((s + d) % 2 + n) % 2 ≡ (s + (d + n)) % 2
+      parity s d n = omega arith
+
+  -- the frames so far are no more than the half-clocks
+  pub few : (n : ℕ) (r : Metered) → r ≡ metered 48 K m true n → f + r.frames ≤ passed + n
+  few n r e = rw e (let l = (turn n).frames in let b = frames_le start (passed + n) g.first in omega arith)

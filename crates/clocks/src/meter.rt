@@ -51,13 +51,10 @@ pub fn frames_from(meter: Meter, halves: u64) -> u64
 {
     let mut at = meter;
     let mut frames: u64 = 0;
-    let mut left = halves;
-    while 0 < left {
-        let some = left.min(16384);
-        let metered = at.calls(true, some);
+    for _ in 0..halves / 16384 {
+        let metered = at.calls(true, 16384);
         at = metered.meter;
         frames += metered.frames;
-        left -= some;
     }
-    frames
+    frames + at.calls(true, halves % 16384).frames
 }

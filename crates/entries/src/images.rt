@@ -1,21 +1,13 @@
 // Images of kept units, and access logs played on them, for a host in C or Rust.
-ghost use Rattle.std.specs.Prelude.{◌≡◌, length, ◌<◌, ◌^◌};
+ghost use Rattle.std.specs.Prelude.{◌≡◌, length};
 ghost use Rattle.image_player.specs.Answers as kept;
 ghost use Rattle.image_player.specs.Playing.{answer_from, out_from, after_from};
 ghost use Rattle.image_player.specs.Making.{made_of, made_in, packed_made};
 
-use crate::pack::packed;
-use image_player::answer::{ImageAnswer, put_counts, refusal, returned};
-use image_player::make::{fresh_image, refusal_of_made, returned_of_made};
+use crate::pack::{pack, packed};
+use image_player::make::{fresh_image, returned_of_made};
 use image_player::play::play_image;
-
-// The answer to a log on an image as one number.
-fn pack_kept(answer: ImageAnswer) -> u64
-    requires { kept.returned_of answer < 2 ^ 48 }
-    ensures { result ≡ kept.packed answer }
-{
-    packed(refusal(answer), returned(answer))
-}
+use log_scan::answer::{put_counts, refusal};
 
 // A fresh unit's image, by a log's start byte: 164, the bytes written, or refusal 4 or 8, and nothing is written.
 #[unsafe(no_mangle)]
@@ -24,7 +16,7 @@ pub extern "C" fn make_image(start: u8, image: &mut [u8]) -> u64
     ensures image_after { image.new ≡ made_in start image.old }
 {
     let made = fresh_image(start, image);
-    packed(refusal_of_made(made), returned_of_made(made))
+    packed(refusal(made), returned_of_made(made))
 }
 
 // Plays a log's records on the unit of an image, and writes the image of the unit after them; or refuses it and writes nothing.
@@ -34,7 +26,7 @@ pub extern "C" fn play_from_image(image: &[u8], log: &[u8], out: &mut [u8], afte
     ensures out_after { out.new ≡ out_from image.now log.now (length after.old) out.old }
     ensures after_after { after.new ≡ after_from image.now log.now (length out.old) after.old }
 {
-    pack_kept(play_image(image, log, out, after))
+    pack(play_image(image, log, out, after))
 }
 
 // The same, with frames, clock calls and records put into `counts`.
@@ -54,5 +46,5 @@ pub extern "C" fn play_from_image_counted(
 {
     let answer = play_image(image, log, out, after);
     put_counts(answer, counts);
-    pack_kept(answer)
+    pack(answer)
 }

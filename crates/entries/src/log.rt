@@ -1,19 +1,11 @@
 // A whole access log, for a host in C or Rust.
-ghost use Rattle.std.specs.Prelude.{◌≡◌, length, ◌<◌, ◌^◌};
-ghost use Rattle.log_scan.specs.Answers.{returned_of, packed, out_after, counts_after};
+ghost use Rattle.std.specs.Prelude.{◌≡◌, length};
+ghost use Rattle.log_scan.specs.Answers.{packed, out_after, counts_after};
 ghost use Rattle.log_player.specs.Logs.{bytes_of_log, answer_of};
 
-use crate::pack::packed;
+use crate::pack::pack;
 use log_player::log::play_log;
-use log_scan::answer::{LogAnswer, put_counts, refusal, returned};
-
-// A log's answer as one number.
-fn pack(answer: LogAnswer) -> u64
-    requires { returned_of answer < 2 ^ 48 }
-    ensures { result ≡ packed answer }
-{
-    packed(refusal(answer), returned(answer))
-}
+use log_scan::answer::put_counts;
 
 // Plays a log into the output, or refuses it and writes nothing.
 #[unsafe(no_mangle)]

@@ -1,5 +1,9 @@
 // An answer as one number: refusal × 2^48 + bytes written or number returned.
 ghost use Rattle.std.specs.Prelude.{◌≡◌, ◌+◌, ◌*◌, ◌^◌, ◌≤◌, ◌<◌};
+ghost use Rattle.log_scan.specs.Answers.{refusal_in, returned_in};
+
+use log_scan::answer::{Played, refusal, returned};
+use log_scan::refusal::Refusal;
 
 pub fn packed(refusal: u64, number: u64) -> u64
     requires refusal_bound { refusal ≤ 11 }
@@ -7,4 +11,12 @@ pub fn packed(refusal: u64, number: u64) -> u64
     ensures { result ≡ refusal * 2 ^ 48 + number }
 {
     refusal * 0x1_0000_0000_0000 + number
+}
+
+// What playing a log answered.
+pub fn pack<E: Refusal>(answer: Result<Played, E>) -> u64
+    requires { returned_in E.number_returned answer < 2 ^ 48 }
+    ensures { result ≡ refusal_in E.number_of answer * 2 ^ 48 + returned_in E.number_returned answer }
+{
+    packed(refusal(answer), returned(answer))
 }

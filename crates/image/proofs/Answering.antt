@@ -11,10 +11,10 @@ use Rattle.apu.specs.declared.Apu.{Apu}
 use Rattle.image.specs.Image.{unit_bytes, unit_at, unit_fits}
 use Rattle.image.specs.Answers.{saved_of, saved_in, is_taken, fresh_dmg, taken_if, taken_of}
 use Rattle.image.specs.declared.keep.Taken.{Taken}
-use Rattle.image.specs.declared.keep.Saved.TheVariants as saved
-use Rattle.image.specs.declared.keep.Image.TheVariants as image
+use Rattle.image.specs.declared.keep.TooShort.{TooShort}
+use Rattle.std.specs.Prelude.{Result, Ok, Err}
 
-pub short_answer : (n : ℕ) → n < 164 → saved.TooShort 164 ≡ saved_of n
+pub short_answer : (n : ℕ) → n < 164 → ◌≡◌ {A = Result Unit TooShort} (Err (record { needed = 164 })) (saved_of n)
 unfolding saved_of pick
 short_answer n h = rw (lt-ltb n 164 h)
 
@@ -22,7 +22,7 @@ pub short_kept : (u : Apu) (l : List ℕ) → length l < 164 → l ≡ saved_in 
 unfolding saved_in pick
 short_kept u l h = rw (lt-ltb (length l) 164 h)
 
-pub done_answer : (n : ℕ) → 164 ≤ n → saved.Done ≡ saved_of n
+pub done_answer : (n : ℕ) → 164 ≤ n → Ok tt ≡ saved_of n
 unfolding saved_of pick
 done_answer n h = rw (le-ltb n 164 h)
 
@@ -30,7 +30,7 @@ pub done_stored : (u : Apu) (l k : List ℕ) → 164 ≤ length l → k ≡ stor
 unfolding saved_in pick
 done_stored u l k h e = rw (le-ltb (length l) 164 h) e
 
-pub taken_yes : (s : List ℕ) (r : Apu) → length s ≡ 164 → unit_fits s 0 ≡ true → r ≡ unit_at s 0 → record { answer = image.Done; apu = r } ≡ taken_of s
+pub taken_yes : (s : List ℕ) (r : Apu) → length s ≡ 164 → unit_fits s 0 ≡ true → r ≡ unit_at s 0 → record { answer = Ok tt; apu = r } ≡ taken_of s
 unfolding taken_of is_taken
 taken_yes s r l o e = ap (taken_if true) e ∙ rw (eq-eqb (length s) 164 l, o)
 

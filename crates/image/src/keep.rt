@@ -7,40 +7,36 @@ use crate::layout::IMAGE_BYTES;
 use crate::unit::{put_unit, read_unit, unit_fits};
 use apu::Apu;
 
-// What keeping a unit answers: refusal 8 has the bytes needed.
+// Refusal 8, with the bytes needed.
 #[derive(Clone, Copy)]
-pub enum Saved {
-    Done,
-    TooShort { needed: usize },
+pub struct TooShort {
+    pub needed: usize,
 }
 
-// What taking one up answers: refusal 7, the image is wrong.
+// Refusal 7.
 #[derive(Clone, Copy)]
-pub enum Image {
-    Done,
-    Wrong,
-}
+pub struct WrongImage;
 
-// The answer, and the unit.
+// What taking a unit up answers, and the unit.
 #[derive(Clone, Copy)]
 pub struct Taken {
-    pub answer: Image,
+    pub answer: Result<(), WrongImage>,
     pub apu: Apu,
 }
 
 // Writes a unit's image to the front of the output, or refuses it and writes nothing.
-pub fn write_image(unit: Apu, out: &mut [u8]) -> Saved
+pub fn write_image(unit: Apu, out: &mut [u8]) -> Result<(), TooShort>
     requires { Held unit }
     ensures value { result ≡ saved_of (length out.old) }
     ensures out_after { out.new ≡ saved_in unit out.old }
 {
     if out.len() < IMAGE_BYTES {
-        return Saved::TooShort {
+        return Err(TooShort {
             needed: IMAGE_BYTES,
-        };
+        });
     }
     put_unit(out, 0, unit);
-    Saved::Done
+    Ok(())
 }
 
 // Refusal 7, and a fresh DMG unit beside it.
@@ -48,7 +44,7 @@ fn wrong() -> Taken
     ensures { result ≡ taken_if false fresh_dmg }
 {
     Taken {
-        answer: Image::Wrong,
+        answer: Err(WrongImage),
         apu: Apu::new(true),
     }
 }
@@ -60,7 +56,7 @@ pub fn take_image(image: &[u8]) -> Taken
     if image.len() == IMAGE_BYTES {
         if unit_fits(image, 0) {
             return Taken {
-                answer: Image::Done,
+                answer: Ok(()),
                 apu: read_unit(image, 0),
             };
         }

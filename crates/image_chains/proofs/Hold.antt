@@ -18,9 +18,9 @@ use Rattle.apu.specs.declared.Apu.{Apu}
 use Rattle.log_records.specs.Judge.{Judged}
 use Rattle.log_records.specs.Records.{version_of, records_of, listed}
 use Rattle.log_scan.specs.Scan.{wrong_in, summed, added}
-use Rattle.log_scan.specs.Answers.{is_done, done_as, or_wrong, scanned_as, within_room}
-use Rattle.log_scan.specs.declared.answer.LogAnswer.{LogAnswer}
-use Rattle.log_scan.specs.declared.answer.LogAnswer.TheVariants.{Done, TooLong, BadStart, WrongRecord, TooShort}
+use Rattle.log_scan.specs.Answers.{LogAnswer, is_done, done_as, or_wrong, scanned_as, within_room}
+use Rattle.log_scan.specs.declared.answer.Played.{Played}
+use Rattle.log_scan.specs.declared.answer.LogRefusal.TheVariants.{TooLong, TooShort}
 use Rattle.log_scan.specs.declared.scan.Sums.{Sums}
 use Rattle.log_scan.proofs.Counting.{summed_append}
 use Rattle.log_scan.proofs.Done.{done_clear}
@@ -34,29 +34,37 @@ use Rattle.image_fields.specs.Bytes.{stored}
 use Rattle.image.specs.Layout.{image_length}
 use Rattle.image.specs.Image.{unit_bytes}
 use Rattle.image.specs.Answers.{saved_in, is_taken, taken_of}
-use Rattle.image.specs.declared.keep.Image.TheVariants as image
+use Rattle.std.specs.Prelude.{Ok, Err}
 use Rattle.image.specs.declared.keep.Taken.{Taken}
 use Rattle.image_laws.specs.Images.{Bytewise}
 use Rattle.image_laws.proofs.Hold.{images}
 use Rattle.image_laws.proofs.Whole.{unit_long}
 use Rattle.image_player.specs.Playing.{answer_kept, answer_from, after_kept, after_from}
-use Rattle.image_player.specs.declared.answer.ImageAnswer.{ImageAnswer}
-use Rattle.image_player.specs.declared.answer.ImageAnswer.TheVariants.{WrongImage, Log, NoRoomForImage}
-use Rattle.image_chains.specs.Chains.{Counts, done_with, plus, one_log, unit_of, Links, counts_of, Followed, Chained, Chains}
+use Rattle.image_player.specs.Answers.{ImageAnswer, of_log}
+use Rattle.image_player.specs.declared.answer.ImageRefusal.TheVariants.{WrongImage, Log, NoRoomForImage}
+use Rattle.image_chains.specs.Chains.{Counts, played_with, done_with, plus, one_log, unit_of, Links, counts_of, Followed, Chained, Chains}
 
 -- ---- from an answer to what it is made of
 log_in : ImageAnswer → LogAnswer
-log_in WrongImage = TooLong
-log_in (Log a) = a
-log_in (NoRoomForImage needed) = TooLong
+log_in (Ok played) = Ok played
+log_in (Err WrongImage) = Err TooLong
+log_in (Err (Log r)) = Err r
+log_in (Err (NoRoomForImage needed)) = Err TooLong
 
-told : (t b : Bool) (n : ℕ) (x y : LogAnswer) → pick t (pick b (NoRoomForImage n) (Log x)) WrongImage ≡ Log y → (t ≡ true) × (x ≡ y)
-unfolding pick log_in
-told true true n x y e = (refl, cc)
-told true false n x y e = (refl, ap log_in e)
-told false b n x y e = (cc, cc)
+in_of : (x : LogAnswer) → log_in (of_log x) ≡ x
+unfolding log_in
+in_of (Ok played) = refl
+in_of (Err r) = refl
 
-module _ (s log : List ℕ) (room : ℕ) {y : LogAnswer} (e : answer_from s log room image_length ≡ Log y) where
+told : (t b : Bool) (n : ℕ) (x y : LogAnswer) → pick t (pick b (Err (NoRoomForImage n)) (of_log x)) (Err WrongImage) ≡ of_log y → (t ≡ true) × (x ≡ y)
+unfolding pick
+told true true n x (Ok y) e = (refl, cc)
+told true true n x (Err y) e = (refl, cc)
+told true false n x y e = (refl, sym (in_of x) ∙ ap log_in e ∙ in_of y)
+told false b n x (Ok y) e = (cc, cc)
+told false b n x (Err y) e = (cc, cc)
+
+module _ (s log : List ℕ) (room : ℕ) {y : LogAnswer} (e : answer_from s log room image_length ≡ of_log y) where
   both : (is_taken s ≡ true) × (answer_on (unit_of s) log room ≡ y)
   unfolding answer_from answer_kept
   both = told (is_taken s) (is_done (answer_on (unit_of s) log room) && ltb image_length image_length) image_length (answer_on (unit_of s) log room) y e
@@ -69,7 +77,7 @@ module _ (room n f : ℕ) (s : List ℕ) where
   abbrev Is : LogAnswer → Type 0
   Is a = is_done (within_room room a) ≡ true → within_room room a ≡ sums
 
-  roomy : (t : Bool) → is_done (pick t (TooShort n) sums) ≡ true → pick t (TooShort n) sums ≡ sums
+  roomy : (t : Bool) → is_done (pick t (Err (TooShort n)) sums) ≡ true → pick t (Err (TooShort n)) sums ≡ sums
   unfolding pick
   roomy true d = cc
   roomy false d = refl
@@ -84,27 +92,19 @@ module _ (room n f : ℕ) (s : List ℕ) where
   done_is = pick_holds Is _ _ _ (λ _ d. cc) (λ _. pick_holds Is _ _ _ (λ _ d. cc) (λ _. marked (wrong_in (records_of s))))
 
 -- the numbers of two answers that are done
-added_to : ℕ → ℕ → ℕ → ℕ → LogAnswer → LogAnswer
-added_to w f c r (Done w' f' c' r') = Done (w + w') (f + f') (c + c') (r + r')
-added_to w f c r TooLong = TooLong
-added_to w f c r BadStart = BadStart
-added_to w f c r (WrongRecord place) = WrongRecord place
-added_to w f c r (TooShort needed) = TooShort needed
+added_to : Played → LogAnswer → LogAnswer
+added_to p (Ok q) =
+    Ok (record { written = p.written + q.written; frames = p.frames + q.frames; clocks = p.clocks + q.clocks; records = p.records + q.records })
+added_to p (Err r) = Err r
 
 sum_of : LogAnswer → LogAnswer → LogAnswer
-sum_of (Done w f c r) b = added_to w f c r b
-sum_of TooLong b = TooLong
-sum_of BadStart b = BadStart
-sum_of (WrongRecord place) b = WrongRecord place
-sum_of (TooShort needed) b = TooShort needed
+sum_of (Ok p) b = added_to p b
+sum_of (Err r) b = Err r
 
 -- the numbers of an answer that is done
 counts_in : LogAnswer → Counts
-counts_in (Done w f c r) = record { bytes = w; frames = f; calls = c; records = r }
-counts_in TooLong = record { bytes = 0; frames = 0; calls = 0; records = 0 }
-counts_in BadStart = record { bytes = 0; frames = 0; calls = 0; records = 0 }
-counts_in (WrongRecord place) = record { bytes = 0; frames = 0; calls = 0; records = 0 }
-counts_in (TooShort needed) = record { bytes = 0; frames = 0; calls = 0; records = 0 }
+counts_in (Ok p) = record { bytes = p.written; frames = p.frames; calls = p.clocks; records = p.records }
+counts_in (Err r) = record { bytes = 0; frames = 0; calls = 0; records = 0 }
 
 -- those of two rows, the second on the unit that the first leaves
 abbrev tell : ℕ → ℕ → Sums → Counts
@@ -163,28 +163,28 @@ module _ (s a b place : List ℕ) (room more : ℕ) (m n : Counts) (links : Link
   kept = after_from s a room place
 
   taken : is_taken s ≡ true
-  taken = (both s a room links.first).0
+  taken = (both s a room {y = Ok (played_with m)} links.first).0
 
   answer_a : answer_on u a room ≡ log_in (done_with m)
   unfolding log_in
-  answer_a = (both s a room links.first).1
+  answer_a = (both s a room {y = Ok (played_with m)} links.first).1
 
   done_a : is_done (answer_on u a room) ≡ true
   unfolding log_in
   done_a = ap is_done answer_a
 
-  again : taken_of kept ≡ record { answer = image.Done; apu = v }
+  again : taken_of kept ≡ record { answer = Ok tt; apu = v }
   again = ap taken_of (kept_is s a place room taken done_a links.exact) ∙ images.write_read v (left_whole s a place room taken done_a links.bytes)
 
   taken_up : unit_of kept ≡ v
   taken_up = ap (λ (r : Taken). r.apu) again
 
   taken_again : is_taken kept ≡ true
-  taken_again = (both kept b more links.second).0
+  taken_again = (both kept b more {y = Ok (played_with n)} links.second).0
 
   answer_b : answer_on v b more ≡ log_in (done_with n)
   unfolding log_in
-  answer_b = ap (λ (w : Apu). answer_on w b more) (sym taken_up) ∙ (both kept b more links.second).1
+  answer_b = ap (λ (w : Apu). answer_on w b more) (sym taken_up) ∙ (both kept b more {y = Ok (played_with n)} links.second).1
 
   done_b : is_done (answer_on v b more) ≡ true
   unfolding log_in
@@ -258,7 +258,7 @@ module _ (s a b place : List ℕ) (room more : ℕ) (m n : Counts) (links : Link
             ∙ sym (after_is kept b after more taken_again done_kept after)
 
 -- ---- a chain's beginning
-fresh_taken : (byte : ℕ) → taken_of (unit_bytes (unit_of_start byte)) ≡ record { answer = image.Done; apu = unit_of_start byte }
+fresh_taken : (byte : ℕ) → taken_of (unit_bytes (unit_of_start byte)) ≡ record { answer = Ok tt; apu = unit_of_start byte }
 fresh_taken byte = let h = start_ready byte in images.write_read (unit_of_start byte) (record { held = h.0; floats = h.1 })
 
 fresh_is : (byte : ℕ) → is_taken (unit_bytes (unit_of_start byte)) ≡ true
@@ -266,7 +266,7 @@ fresh_is byte =
     let h = start_ready byte in
     images.written_taken _ (record { unit = unit_of_start byte; whole = record { held = h.0; floats = h.1 }; is = refl })
 
-no_refusal : (x : LogAnswer) (d : Bool) → pick (d && ltb image_length image_length) (NoRoomForImage image_length) (Log x) ≡ Log x
+no_refusal : (x : LogAnswer) (d : Bool) → pick (d && ltb image_length image_length) (Err (NoRoomForImage image_length)) (of_log x) ≡ of_log x
 unfolding pick
 no_refusal x true = refl
 no_refusal x false = refl

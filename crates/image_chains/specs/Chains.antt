@@ -1,11 +1,11 @@
 -- A recording of days is a chain of logs, each played on the unit that the one before it left, kept as an image between them: what that comes to.
 -- Assumes nothing.
-use Rattle.std.specs.Prelude.{ℕ, ◌+◌, ◌≤◌, ◌≡◌, List, ◌++◌, length, get_or, drop}
+use Rattle.std.specs.Prelude.{ℕ, ◌+◌, ◌≤◌, ◌≡◌, List, ◌++◌, length, get_or, drop, Ok}
 use Rattle.apu.specs.declared.Apu.{Apu}
 use Rattle.log_records.specs.Judge.{Judged}
 use Rattle.log_records.specs.Records.{version_of, listed}
 use Rattle.log_scan.specs.Sums.{asks, sum_of}
-use Rattle.log_scan.specs.declared.answer.LogAnswer.TheVariants.{Done}
+use Rattle.log_scan.specs.declared.answer.Played.{Played}
 use Rattle.log_player.specs.Playing.{unit_of_start, output, unit_at_end}
 use Rattle.log_player.specs.Frames.{made_by}
 use Rattle.log_player.specs.Logs.{bytes_of_log, answer_of}
@@ -14,8 +14,7 @@ use Rattle.image.specs.Image.{unit_bytes}
 use Rattle.image.specs.Answers.{saved_in, taken_of}
 use Rattle.image_laws.specs.Images.{Bytewise}
 use Rattle.image_player.specs.Playing.{answer_from, after_from}
-use Rattle.image_player.specs.declared.answer.ImageAnswer.{ImageAnswer}
-use Rattle.image_player.specs.declared.answer.ImageAnswer.TheVariants.{Log}
+use Rattle.image_player.specs.Answers.{ImageAnswer, of_log}
 
 -- what an answer that is no refusal tells: bytes written, frames, clock calls, records
 pub record Counts : Type 0 where
@@ -24,8 +23,11 @@ pub record Counts : Type 0 where
   pub calls : ℕ
   pub records : ℕ
 
+abbrev pub played_with : Counts → Played
+played_with n = record { written = n.bytes; frames = n.frames; clocks = n.calls; records = n.records }
+
 abbrev pub done_with : Counts → ImageAnswer
-done_with n = Log (Done n.bytes n.frames n.calls n.records)
+done_with n = Ok (played_with n)
 
 -- those of two logs
 abbrev pub plus : Counts → Counts → Counts
@@ -77,5 +79,5 @@ pub record Chains : Type 0 where
   pub chain : (s a b place : List ℕ) (room more wide : ℕ) (m n : Counts) → Links s a b place room more m n
       → version_of b ≡ version_of a → length (one_log a b) ≤ 65536 → m.bytes + n.bytes ≤ wide → Chained s a b (after_from s a room place) more wide m n
   -- a chain begins with a fresh unit's image: on the image that its start byte asks for, a log is answered as by itself, and makes the same output
-  pub fresh_answer : (log : List ℕ) (room : ℕ) → answer_from (unit_bytes (unit_of_start (get_or log 1 0))) log room image_length ≡ Log (answer_of log room)
+  pub fresh_answer : (log : List ℕ) (room : ℕ) → answer_from (unit_bytes (unit_of_start (get_or log 1 0))) log room image_length ≡ of_log (answer_of log room)
   pub fresh_output : (log : List ℕ) → output (listed log) (unit_of (unit_bytes (unit_of_start (get_or log 1 0)))) ≡ bytes_of_log log

@@ -17,7 +17,7 @@ use Rattle.apu_clock.proofs.Demand3.{kept_conserved}
 use Rattle.image.specs.Layout.{image_length, pulse1_base, pulse2_base, wave_base, noise_base}
 use Rattle.image.specs.Image.{tail_bytes, unit_bytes, unit_at, unit_fits}
 use Rattle.image.specs.Answers.{is_taken, taken_if, taken_of}
-use Rattle.image.specs.declared.keep.Image.TheVariants.{Done}
+use Rattle.std.specs.Prelude.{Ok}
 use Rattle.image.specs.declared.keep.Taken.{Taken}
 use Rattle.image_laws.specs.Images.{Bytewise, with_frames, PartsFollow, Images}
 use Rattle.image_laws.proofs.Numbers.{row_all}
@@ -43,7 +43,7 @@ unfolding is_taken
 fits s e = and_r (eqb (length s) image_length) (unit_fits s 0) (yes _ e)
 
 -- the unit beside the answer
-taken_up : (s : List ℕ) → is_taken s ≡ true → taken_of s ≡ record { answer = Done; apu = unit_at s 0 }
+taken_up : (s : List ℕ) → is_taken s ≡ true → taken_of s ≡ record { answer = Ok tt; apu = unit_at s 0 }
 unfolding taken_of
 taken_up s e = rw e
 
@@ -61,8 +61,8 @@ module _ (u : Apu) (k : Whole u) where
       is_yes _
       (and_i (eqb (length (unit_bytes u)) image_length) (unit_fits (unit_bytes u) 0) (eq→eqb (unit_long u)) (unit-fits (unit_bytes u) 0 u k own))
 
-  there_and_back : taken_of (unit_bytes u) ≡ record { answer = Done; apu = u }
-  there_and_back = taken_up (unit_bytes u) own_taken ∙ ap (λ (v : Apu). record { answer = Done; apu = v }) (unit_back (unit_bytes u) 0 u k own)
+  there_and_back : taken_of (unit_bytes u) ≡ record { answer = Ok tt; apu = u }
+  there_and_back = taken_up (unit_bytes u) own_taken ∙ ap (λ (v : Apu). record { answer = Ok tt; apu = v }) (unit_back (unit_bytes u) 0 u k own)
 
 back_and_there : (s : List ℕ) → Bytewise s → is_taken s ≡ true → unit_bytes (taken_of s).apu ≡ s
 back_and_there s b e = ap (λ (r : Taken). unit_bytes r.apu) (taken_up s e) ∙ unit_same s 0 b (fits s e) ∙ all_of s e

@@ -1,5 +1,5 @@
 -- What request 2026-01 promises of images, as one statement about the definitions. Quotes are its words. Assumes nothing.
-use Rattle.std.specs.Prelude.{◌≡◌, true, List, ℕ, ◌+◌, ◌<◌, length, get_or}
+use Rattle.std.specs.Prelude.{◌≡◌, true, List, ℕ, ◌+◌, ◌<◌, length, get_or, Ok}
 use Rattle.clocks.specs.Rows.{steps}
 use Rattle.apu.specs.Held.{Whole}
 use Rattle.apu.specs.declared.Apu.{Apu}
@@ -11,7 +11,6 @@ use Rattle.image_parts.specs.Noise.{noise_group_bytes}
 use Rattle.image.specs.Layout.{rest_length, image_length, pulse1_base, pulse2_base, wave_base, wave_model, noise_base, tail_base}
 use Rattle.image.specs.Image.{head_bytes, tail_bytes, unit_bytes}
 use Rattle.image.specs.Answers.{is_taken, taken_of}
-use Rattle.image.specs.declared.keep.Image.TheVariants.{Done}
 
 -- a list of bytes: each is below 256
 abbrev pub Bytewise : List ℕ → Type 0
@@ -42,7 +41,7 @@ pub record Images : Type 0 where
   -- "then the length of the rest in two bytes, then every field in the Rust structures' order"
   pub parts_follow : (u : Apu) → PartsFollow u
   -- "Writing then reading gives the state"
-  pub write_read : (u : Apu) → Whole u → taken_of (unit_bytes u) ≡ record { answer = Done; apu = u }
+  pub write_read : (u : Apu) → Whole u → taken_of (unit_bytes u) ≡ record { answer = Ok tt; apu = u }
   -- "reading then writing gives the bytes"
   pub read_write : (s : List ℕ) → Bytewise s → is_taken s ≡ true → unit_bytes (taken_of s).apu ≡ s
   -- "An image is taken exactly if .. all fields lie in document 01's ranges": it is what some unit in its ranges writes

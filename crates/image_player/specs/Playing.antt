@@ -1,5 +1,5 @@
 -- A log on a kept unit: what it is answered, the output, and the image after it. Assumes nothing.
-use Rattle.std.specs.Prelude.{ℕ, ◌&&◌, List, length, ltb}
+use Rattle.std.specs.Prelude.{ℕ, ◌&&◌, List, length, ltb, Err}
 use Rattle.ground.specs.Pick.{pick}
 use Rattle.apu.specs.declared.Apu.{Apu}
 use Rattle.log_records.specs.Records.{listed}
@@ -8,15 +8,15 @@ use Rattle.log_player.specs.Playing.{output, unit_at_end}
 use Rattle.log_player.specs.Logs.{answer_on}
 use Rattle.image.specs.Layout.{image_length}
 use Rattle.image.specs.Answers.{saved_in, is_taken, taken_of}
-use Rattle.image_player.specs.declared.answer.ImageAnswer.{ImageAnswer}
-use Rattle.image_player.specs.declared.answer.ImageAnswer.TheVariants.{WrongImage, Log, NoRoomForImage}
+use Rattle.image_player.specs.Answers.{ImageAnswer, of_log}
+use Rattle.image_player.specs.declared.answer.ImageRefusal.TheVariants.{WrongImage, NoRoomForImage}
 
 -- ---- on a unit, with so many bytes of room for the output and so many for the image
 
 -- the log's refusals come first, 8 ("place too short (bytes needed)") last
 unfoldable pub answer_kept : Apu → List ℕ → ℕ → ℕ → ImageAnswer
 answer_kept a log room place =
-    pick (is_done (answer_on a log room) && ltb place image_length) (NoRoomForImage image_length) (Log (answer_on a log room))
+    pick (is_done (answer_on a log room) && ltb place image_length) (Err (NoRoomForImage image_length)) (of_log (answer_on a log room))
 
 -- the output after it: with any refusal, 8 too, as it was
 unfoldable pub out_kept : Apu → List ℕ → ℕ → List ℕ → List ℕ
@@ -29,7 +29,7 @@ after_kept a log room after = pick (is_done (answer_on a log room)) (saved_in (u
 -- ---- on the unit of an image: "7, image wrong" comes before all else
 
 unfoldable pub answer_from : List ℕ → List ℕ → ℕ → ℕ → ImageAnswer
-answer_from image log room place = pick (is_taken image) (answer_kept (taken_of image).apu log room place) WrongImage
+answer_from image log room place = pick (is_taken image) (answer_kept (taken_of image).apu log room place) (Err WrongImage)
 
 unfoldable pub out_from : List ℕ → List ℕ → ℕ → List ℕ → List ℕ
 out_from image log place out = pick (is_taken image) (out_kept (taken_of image).apu log place out) out

@@ -1,46 +1,60 @@
-// What playing on a kept unit answers: refusal 7, the log's own answer, or refusal 8, tried in that order.
+// What playing on a kept unit answers: refusal 7, the log's own refusals, or refusal 8, tried in that order.
 ghost use Rattle.std.specs.Prelude.{◌≡◌};
-ghost use Rattle.image_player.specs.Answers.{refusal_of, returned_of, counts_after};
+ghost use Rattle.std.proofs.Common.{rules};
+ghost use Rattle.image_player.specs.Answers.{number_of, number_returned};
+ghost use Rattle.image_player.specs.declared.answer.ImageRefusal.TheVariants as refused;
 
-use log_scan::answer as log_answer;
-use log_scan::answer::LogAnswer;
+use image::keep::WrongImage;
+use log_scan::answer::{LogRefusal, Played};
+use log_scan::refusal::Refusal;
 
+// Why a log on a kept unit was refused.
 #[derive(Clone, Copy)]
-pub enum ImageAnswer {
+pub enum ImageRefusal {
     WrongImage,
-    Log { answer: LogAnswer },
+    Log(LogRefusal),
     NoRoomForImage { needed: u64 },
 }
 
-// The refusal's number in the table, 0 for none.
-pub fn refusal(answer: ImageAnswer) -> u64
-    ensures { result ≡ refusal_of answer }
-{
-    match answer {
-        ImageAnswer::WrongImage => 7,
-        ImageAnswer::Log { answer } => log_answer::refusal(answer),
-        ImageAnswer::NoRoomForImage { needed: _ } => 8,
+// What playing one answers.
+pub type ImageAnswer = Result<Played, ImageRefusal>;
+
+impl From<WrongImage> for ImageRefusal {
+    ghost from_gives = { λ _ r. r ≡ refused.WrongImage };
+
+    fn from(_wrong: WrongImage) -> ImageRefusal {
+        ImageRefusal::WrongImage
     }
 }
 
-// Bytes written to the output, or the number that a refusal returns.
-pub fn returned(answer: ImageAnswer) -> u64
-    ensures { result ≡ returned_of answer }
-{
-    match answer {
-        ImageAnswer::WrongImage => 0,
-        ImageAnswer::Log { answer } => log_answer::returned(answer),
-        ImageAnswer::NoRoomForImage { needed } => needed,
+impl From<LogRefusal> for ImageRefusal {
+    ghost from_gives = { λ log r. r ≡ refused.Log log };
+
+    fn from(log: LogRefusal) -> ImageRefusal {
+        ImageRefusal::Log(log)
     }
 }
 
-// Frames, clock calls and records at the front of a lent slice that has room for them; a refusal puts nothing.
-pub fn put_counts(answer: ImageAnswer, counts: &mut [u64])
-    ensures { counts.new ≡ counts_after answer counts.old }
-{
-    match answer {
-        ImageAnswer::WrongImage => {}
-        ImageAnswer::Log { answer } => log_answer::put_counts(answer, counts),
-        ImageAnswer::NoRoomForImage { needed: _ } => {}
+impl Refusal for ImageRefusal {
+    ghost number_of = { number_of };
+
+    ghost number_returned = { number_returned };
+
+    fn number(self) -> u64 {
+        match self {
+            ImageRefusal::WrongImage => 7,
+            ImageRefusal::Log(refusal) => refusal.number(),
+            ImageRefusal::NoRoomForImage { .. } => 8,
+        }
     }
+
+    fn returned(self) -> u64 {
+        match self {
+            ImageRefusal::WrongImage => 0,
+            ImageRefusal::Log(refusal) => refusal.returned(),
+            ImageRefusal::NoRoomForImage { needed } => needed,
+        }
+    }
+
+    ghost in_table = { Prim.search rules };
 }

@@ -11,11 +11,10 @@ use Rattle.apu.specs.declared.Apu.{Apu}
 use Rattle.apu_clock.specs.Demand3.{meter_of}
 use Rattle.apu_clock.proofs.Demand3.{stored_held}
 use Rattle.log_records.specs.Records.{listed}
-use Rattle.log_scan.specs.Answers.{refusal_of, returned_of, is_done, scanned_as, scanned_from, within_room, out_after}
+use Rattle.log_scan.specs.Answers.{LogAnswer, refusal_of, returned_of, is_done, scanned_as, scanned_from, within_room, out_after}
 use Rattle.log_scan.proofs.Refusals.{log_refuses}
 use Rattle.log_scan.proofs.Bounds.{Packs, answer_packs}
 use Rattle.log_scan.proofs.Done.{done_fits, done_out, refused_out}
-use Rattle.log_scan.specs.declared.answer.LogAnswer.{LogAnswer}
 use Rattle.log_player.specs.Playing.{unit_of_start, output}
 use Rattle.log_player.specs.Frames.{made_by}
 use Rattle.log_player.specs.Logs.{answer_on, refused_on, returned_on, answer_of}

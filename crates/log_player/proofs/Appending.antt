@@ -7,7 +7,7 @@ use native.Mathlib.Nat.{zero-add, add_assoc}
 use native.Mathlib.Omega.{arith}
 use mathlib.Core.Bool.{true, false}
 use lib.ListN.{length, get_or, take, drop, length-append}
-use Rattle.std.specs.Prelude.{None, Ok, Err}
+use Rattle.std.specs.Prelude.{None, Ok, Err, Some}
 use Rattle.ground.specs.Pick.{pick}
 use Rattle.ground.proofs.Cases.{both_ways}
 use Rattle.apu.specs.Held.{Held, FloatsHeld}
@@ -16,10 +16,8 @@ use Rattle.apu.proofs.Ranges.{write_held}
 use Rattle.apu.proofs.Floats.{write_floats}
 use Rattle.apu_run.proofs.Rows.{clocks_held, clocks_floats}
 use Rattle.log_records.specs.declared.judge.Record.TheVariants.{Write, Read, Clock, Pcm}
-use Rattle.log_records.specs.declared.cut.Cut.{Cut}
-use Rattle.log_records.specs.declared.cut.Cut.TheVariants.{End, Short, Body}
 use Rattle.log_records.specs.Judge.{Judged, write_of, read_of, clock_of, pcm_of, judge_of}
-use Rattle.log_records.specs.Records.{Parsed, cut_at, body_at, grow, parse, records_from, unrolled, version_of, records_of, listed}
+use Rattle.log_records.specs.Records.{Cut, Parsed, cut_at, body_at, grow, parse, records_from, unrolled, version_of, records_of, listed}
 use Rattle.log_records.proofs.Joining.{get_d_drop}
 use Rattle.log_scan.specs.Scan.{wrong_in, summed, added}
 use Rattle.log_scan.specs.Answers.{is_done, too_long, done_as, scanned_as, within_room}
@@ -103,9 +101,9 @@ judged_byte v s h =
 
 first_bytes : (v : ℕ) (s : List ℕ) (at : ℕ) (rest : ℕ → Parsed) (c : Cut) → AllBytes s
     → ((n : ℕ) → ByteValues (unrolled (rest (at + 2 + n)))) → ByteValues (unrolled (grow v s at rest c))
-first_bytes v s at rest End h more = end
-first_bytes v s at rest Short h more = end
-first_bytes v s at rest (Body n) h more = judged_byte v (body_at s at n) (body_bytes s at n h) then more n
+first_bytes v s at rest (Ok None) h more = end
+first_bytes v s at rest (Err fault) h more = end
+first_bytes v s at rest (Ok (Some n)) h more = judged_byte v (body_at s at n) (body_bytes s at n h) then more n
 
 parsed_bytes : (v n : ℕ) (s : List ℕ) (at : ℕ) → AllBytes s → ByteValues (unrolled (parse v n s at))
 unfolding parse

@@ -1,11 +1,11 @@
 -- What is to come of a log, taken by rows of records and by calls of the clock record at the place. Assumes nothing.
 use Prim.Native.Nat.{ℕ, zero, suc, ◌+◌, ◌-◌, ◌≤◌, ◌<◌}
 use mathlib.Core.Path.{◌≡◌, refl, sym, ◌∙◌, ap}
-use mathlib.Core.Bool.{true, false}
+use mathlib.Core.Bool.{false}
 use mathlib.Core.List.{List, [], ◌∷◌, ◌++◌, append-nil, append_assoc}
 use native.Mathlib.Nat.{sub-zero}
 use native.Mathlib.Omega.{arith}
-use Rattle.std.specs.Prelude.{Ok}
+use Rattle.std.specs.Prelude.{Option, Some, None, Ok}
 use Rattle.ground.specs.Pick.{pick}
 use Rattle.ground.specs.Iterate.{iterate}
 use Rattle.log_records.specs.Judge.{Judged}
@@ -37,39 +37,40 @@ records_behind : (l : List Judged) (x : List ℕ) (t : Take) → records_on l (f
 records_behind l x t = ap (λ (y : List ℕ). record { apu = unit_at_end l t.apu; bytes = y }) (append_assoc x t.bytes (output l t.apu))
 
 -- the bytes before stay in front
+calls_behind : (c : Option Clocks) (i : ℕ) (x : List ℕ) (t : Take) → calls_on c i (front x t) ≡ front x (calls_on c i t)
+calls_behind None i x t = refl
+calls_behind (Some c) i x t = rows_behind c.double c.divider i (c.count - i) x t
+
 pub coming_behind : (v : ℕ) (s : List ℕ) (at call : ℕ) (x : List ℕ) (t : Take) → coming_at v s at call (front x t) ≡ front x (coming_at v s at call t)
 unfolding coming_at
 coming_behind v s at zero x t = records_behind (unrolled (records_from v s at)) x t
 coming_behind v s at (suc i) x t =
     let c = clocks_at v s at in
     let l = unrolled (records_from v s (clock_end v at)) in
-    ap (records_on l) (rows_behind c.double c.divider (suc i) (c.count - suc i) x t) ∙ records_behind l x (calls_on c (suc i) t)
+    ap (records_on l) (calls_behind c (suc i) x t) ∙ records_behind l x (calls_on c (suc i) t)
 
 abbrev pub coming : ℕ → List ℕ → ℕ → ℕ → Later
 coming v s at call = record { on = coming_at v s at call; behind = coming_behind v s at call }
 
 -- ---- a place between two calls
 pub between_first : (v : ℕ) (s : List ℕ) (at : ℕ) → Between v s at 0
-between_first v s at = record { within = λ e. omega (arith, (clocks_stand v s at e).some); none = λ e. refl }
+between_first v s at = record { within = λ c e. omega (arith, (clocks_stand v s at e).some); none = λ e. refl }
 
-module _ (v : ℕ) (s : List ℕ) (at : ℕ) where
-  abbrev c : Clocks
-  c = clocks_at v s at
-
+module _ (v : ℕ) (s : List ℕ) (at : ℕ) {c : Clocks} (found : clocks_at v s at ≡ Some c) where
   abbrev after : List Judged
   after = unrolled (records_from v s (clock_end v at))
 
   -- what is to come of a clock record's calls and of the records after it
   abbrev pub calls_at : ℕ → Take → Take
-  calls_at i t = records_on after (calls_on c i t)
+  calls_at i t = records_on after (calls_on (Some c) i t)
 
-  pub coming_calls : c.right ≡ true → (i : ℕ) (t : Take) → coming_at v s at i t ≡ calls_at i t
+  pub coming_calls : (i : ℕ) (t : Take) → coming_at v s at i t ≡ calls_at i t
   unfolding coming_at
-  coming_calls right zero t =
-      ap (λ (p : Parsed). records_on (unrolled p) t) (clocks_stand v s at right).is
+  coming_calls zero t =
+      ap (λ (p : Parsed). records_on (unrolled p) t) (clocks_stand v s at found).is
       ∙ records_first (Ok (Clock c.double c.divider c.count)) after t
       ∙ ap (λ (n : ℕ). records_on after (rows c.double c.divider 0 n t)) (sym (sub-zero c.count))
-  coming_calls right (suc i) t = refl
+  coming_calls (suc i) t = ap (λ (o : Option Clocks). records_on after (calls_on o (suc i) t)) found
 
   -- some calls on: within the record, or before the next
   pub record Passed (i some : ℕ) (at' call' : ℕ) : Type 0 where
@@ -77,22 +78,26 @@ module _ (v : ℕ) (s : List ℕ) (at : ℕ) where
     pub place : Between v s at' call'
     pub less : ahead s at' call' + 1 ≤ ahead s at i
 
-  pub passed_some : c.right ≡ true → (i some : ℕ) → 1 ≤ some → i + some < c.count → Passed i some at (i + some)
+  pub passed_some : (i some : ℕ) → 1 ≤ some → i + some < c.count → Passed i some at (i + some)
   unfolding ahead
-  passed_some right i some h l =
+  passed_some i some h l =
       record {
-        coming = λ t. sym (coming_calls right (i + some) t);
-        place = record { within = λ _. l; none = λ e. let f : true ≡ false = sym right ∙ e in let z : ◌≡◌ {A = ℕ} 0 1 = cc in absurd (omega arith) };
-        less = omega (arith, (clocks_stand v s at right).further, (clocks_stand v s at right).fits, (clocks_stand v s at right).few);
+        coming = λ t. sym (coming_calls (i + some) t);
+        place =
+            record {
+              within = λ d e. let f : Some c ≡ Some d = sym found ∙ e in let same : c ≡ d = cc in rw (← same) l;
+              none = λ e. let f : Some c ≡ None = sym found ∙ e in let z : ◌≡◌ {A = ℕ} 0 1 = cc in absurd (omega arith);
+            };
+        less = omega (arith, (clocks_stand v s at found).further, (clocks_stand v s at found).fits, (clocks_stand v s at found).few);
       }
 
-  pub passed_all : c.right ≡ true → (i some : ℕ) → i < c.count → i + some ≡ c.count → Passed i some (clock_end v at) 0
+  pub passed_all : (i some : ℕ) → i < c.count → i + some ≡ c.count → Passed i some (clock_end v at) 0
   unfolding ahead coming_at
-  passed_all right i some h e =
+  passed_all i some h e =
       record {
         coming = over;
         place = between_first v s (clock_end v at);
-        less = omega (arith, (clocks_stand v s at right).further, (clocks_stand v s at right).fits, (clocks_stand v s at right).few);
+        less = omega (arith, (clocks_stand v s at found).further, (clocks_stand v s at found).fits, (clocks_stand v s at found).few);
       }
     where
       over : (t : Take) → calls_at (i + some) t ≡ records_on after t

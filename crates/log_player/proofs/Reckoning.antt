@@ -1,9 +1,10 @@
 -- A turn of `reckon`: calls of the clock record at the place, which see one divider bit, in numbers alone. Assumes nothing.
 use Prim.Native.Nat.{ℕ, ◌+◌, ◌-◌, ◌≤◌, ◌<◌}
 use mathlib.Core.Path.{◌≡◌, refl, sym, ◌∙◌, ap}
-use mathlib.Core.Bool.{Bool, true, false, not, true≢false}
+use mathlib.Core.Bool.{Bool, true, false, true≢false}
 use mathlib.Core.List.{List}
 use native.Mathlib.Omega.{arith}
+use Rattle.std.specs.Prelude.{Option, Some, None}
 use Rattle.ground.specs.Pick.{pick}
 use Rattle.ground.specs.Iterate.{iterate}
 use Rattle.apu.specs.declared.Apu.{Apu}
@@ -51,42 +52,39 @@ reckoning {v} {s} {power} {r} b l h e z =
       little = l;
     }
 
--- the test of it
-pub not_false : (b : Bool) → not b ≡ false → b ≡ true
-not_false true e = refl
-not_false false e = sym e
-
-pub not_true : (b : Bool) → not b ≡ true → b ≡ false
-not_true true e = sym e
-not_true false e = refl
+-- none is there, by what the code knows
+pub none_of : {x y : Option Clocks} → x ≡ y → ((c : Clocks) → x ≡ Some c → ⊥) → y ≡ None
+none_of {x} e n = sym e ∙ go x refl
+  where
+    go : (o : Option Clocks) → x ≡ o → x ≡ None
+    go None p = p
+    go (Some c) p = absurd (n c p)
 
 -- a clock record at the place has calls left
 pub calls_left : {v : ℕ} {s : List ℕ} {at call more : ℕ} {power : Bool} {half : ℕ} {stored : Bool} {r : Reckoned} {c : Clocks}
-    → Reckoning v s at call more power half stored r → c ≡ clocks_at v s r.at → not c.right ≡ false → r.call < c.count
-calls_left {c = c} g e right = rw e (g.far.place.within (rw e at (not_false c.right right)))
+    → Reckoning v s at call more power half stored r → clocks_at v s r.at ≡ Some c → r.call < c.count
+calls_left g e = g.far.place.within _ e
 
 pub calls_few : {v : ℕ} {s : List ℕ} {at call more : ℕ} {power : Bool} {half : ℕ} {stored : Bool} {r : Reckoned} {c : Clocks}
-    → Reckoning v s at call more power half stored r → c ≡ clocks_at v s r.at → not c.right ≡ false → c.count ≤ 16384
-calls_few {v} {s} {r = r} {c = c} g e right = rw e (clocks_stand v s r.at (rw e at (not_false c.right right))).few
+    → Reckoning v s at call more power half stored r → clocks_at v s r.at ≡ Some c → c.count ≤ 16384
+calls_few {v} {s} {r = r} g e = (clocks_stand v s r.at e).few
 
 -- ---- a turn's calls: some of those that the clock record at the place still has
 pub record Turn (v : ℕ) (s : List ℕ) (power : Bool) (r : Reckoned) (c : Clocks) (some : ℕ) (m : Met) : Type 0 where
-  pub found : c ≡ clocks_at v s r.at
-  pub right : not c.right ≡ false
+  pub found : clocks_at v s r.at ≡ Some c
   pub first : 1 ≤ some
   pub within : some ≤ c.count - r.call
   pub same_bit : OneBit c.double c.divider r.call some
   pub is : m ≡ met_of r.half power r.stored c.double (bit_of c.double (divider_at c.divider r.call)) some
 
 pub turn_of : {v : ℕ} {s : List ℕ} {power : Bool} {r : Reckoned} {c : Clocks} {some byte : ℕ} {bit : Bool} {m : Met}
-    → c ≡ clocks_at v s r.at → not c.right ≡ false
+    → clocks_at v s r.at ≡ Some c
     → ((1 ≤ some) × (some ≤ c.count - r.call)) × OneBit c.double c.divider r.call some
     → byte ≡ divider_at c.divider r.call → bit ≡ bit_of c.double byte → m ≡ met_of r.half power r.stored c.double bit some
     → Turn v s power r c some m
-turn_of {power = power} {r} {c} {some} found right stretch ve be me =
+turn_of {power = power} {r} {c} {some} found stretch ve be me =
     record {
       found = found;
-      right = right;
       first = stretch.0.0;
       within = stretch.0.1;
       same_bit = stretch.1;
@@ -100,11 +98,8 @@ module _ {v : ℕ} {s : List ℕ} {power : Bool} {r : Reckoned} {c : Clocks} {so
   abbrev bit : Bool
   bit = bit_of d (divider_at c.divider r.call)
 
-  right_here : (clocks_at v s r.at).right ≡ true
-  right_here = rw (← t.found) (not_false c.right t.right)
-
   pub turn_count : c.count ≤ 16384
-  turn_count = rw t.found (clocks_stand v s r.at right_here).few
+  turn_count = (clocks_stand v s r.at t.found).few
 
   pub turn_half : m.half ≤ 1
   turn_half = rw t.is (met_half r.half power r.stored d bit some)
@@ -127,7 +122,7 @@ module _ {v : ℕ} {s : List ℕ} {power : Bool} {r : Reckoned} {c : Clocks} {so
 
   -- these calls are past, and nothing else has changed but the half-clocks
   pub record Past (r' : Reckoned) : Type 0 where
-    pub passed : Passed v s r.at r.call some r'.at r'.call
+    pub passed : Passed v s r.at t.found r.call some r'.at r'.call
     pub owed : r'.owed ≡ r.owed
     pub more : r'.more ≡ r.more
     pub half : r'.half ≡ m.half
@@ -137,13 +132,13 @@ module _ {v : ℕ} {s : List ℕ} {power : Bool} {r : Reckoned} {c : Clocks} {so
       → r' ≡ record { at = c.end; call = 0; owed = r.owed; more = r.more; half = m.half; stored = r.stored; fell = r.fell } → Past r'
   past_all e q =
       let within : r.call < c.count = omega (arith, t.first) in
-      let end : c.end ≡ clock_end v r.at = rw t.found (clocks_stand v s r.at right_here).ends in
+      let end : c.end ≡ clock_end v r.at = (clocks_stand v s r.at t.found).ends in
       let is =
       q
       ∙ ap (λ (n : ℕ). record { at = n; call = 0; owed = r.owed; more = r.more; half = m.half; stored = r.stored; fell = r.fell }) end in
       rw is
       (record {
-        passed = passed_all v s r.at right_here r.call some (rw t.found at within) (rw t.found at e);
+        passed = passed_all v s r.at t.found r.call some within e;
         owed = refl;
         more = refl;
         half = refl;
@@ -156,7 +151,7 @@ module _ {v : ℕ} {s : List ℕ} {power : Bool} {r : Reckoned} {c : Clocks} {so
       let within : r.call + some < c.count = omega (arith, t.first, t.within, e) in
       rw q
       (record {
-        passed = passed_some v s r.at right_here r.call some t.first (rw t.found at within);
+        passed = passed_some v s r.at t.found r.call some t.first within;
         owed = refl;
         more = refl;
         half = refl;
@@ -184,17 +179,16 @@ module _
 
     -- what was to come before these calls
     before : (a : Apu) → a.power ≡ power
-        → coming_at v s at call (ran_of more (marked a half stored)) ≡ records_on after (calls_on c r.call (ran_of r.owed (marked a r.half r.stored)))
+        → coming_at v s at call (ran_of more (marked a half stored)) ≡ records_on after (calls_on (Some c) r.call (ran_of r.owed (marked a r.half r.stored)))
     before a e =
         let x = ran_of r.owed (marked a r.half r.stored) in
         g.far.same a e
         ∙ ap (coming_at v s r.at r.call) (stepped_none r g.level g.only x)
-        ∙ coming_calls v s r.at (right_here t) r.call x
-        ∙ ap (λ (y : Clocks). records_on after (calls_on y r.call x)) (sym t.found)
+        ∙ coming_calls v s r.at t.found r.call x
 
     -- and after them
-    past : (x : Take) → records_on after (calls_on c (r.call + some) x) ≡ coming_at v s r'.at r'.call x
-    past x = ap (λ (y : Clocks). records_on after (calls_on y (r.call + some) x)) t.found ∙ p.passed.coming x
+    past : (x : Take) → records_on after (calls_on (Some c) (r.call + some) x) ≡ coming_at v s r'.at r'.call x
+    past x = p.passed.coming x
 
     -- the bit does not fall
     abbrev on : Reckoned

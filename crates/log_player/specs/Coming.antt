@@ -1,6 +1,6 @@
 -- What is still to come of a log, from a place between two calls of it, and what a player that reckons ahead owes there. For the proof of `play_list` alone:
 -- no promise to a caller is made in these words. Assumes nothing.
-use Rattle.std.specs.Prelude.{ℕ, zero, suc, ◌+◌, ◌-◌, ◌*◌, ◌≤◌, ◌<◌, ◌≡◌, Bool, true, false, ◌&&◌, List, ◌++◌, leb, length}
+use Rattle.std.specs.Prelude.{ℕ, zero, suc, ◌+◌, ◌-◌, ◌*◌, ◌≤◌, ◌<◌, ◌≡◌, Bool, true, false, ◌&&◌, List, ◌++◌, leb, length, Option, Some, None}
 use Rattle.ground.specs.Pick.{pick}
 use Rattle.ground.specs.Iterate.{iterate}
 use Rattle.apu.specs.declared.Apu.{Apu}
@@ -20,9 +20,10 @@ use Rattle.log_player.specs.Playing.{output, unit_at_end}
 abbrev pub records_on : List Judged → Take → Take
 records_on l t = record { apu = unit_at_end l t.apu; bytes = t.bytes ++ output l t.apu }
 
--- the calls of a clock record from call i on
-abbrev pub calls_on : Clocks → ℕ → Take → Take
-calls_on c i t =
+-- the calls of a clock record, if there is one, from call i on
+abbrev pub calls_on : Option Clocks → ℕ → Take → Take
+calls_on None i t = t
+calls_on (Some c) i t =
     let d = c.divider in
     let k = c.count - i in
     record { apu = after_clocks c.double d i k t.apu; bytes = t.bytes ++ clocks_bytes c.double d i k t.apu }
@@ -34,8 +35,8 @@ coming_at v s at (suc i) t = records_on (unrolled (records_from v s (clock_end v
 
 -- a place between two calls: only a clock record has calls that are past, and not all of them are
 pub record Between (v : ℕ) (s : List ℕ) (at call : ℕ) : Type 0 where
-  pub within : (clocks_at v s at).right ≡ true → call < (clocks_at v s at).count
-  pub none : (clocks_at v s at).right ≡ false → call ≡ 0
+  pub within : (c : Clocks) → clocks_at v s at ≡ Some c → call < c.count
+  pub none : clocks_at v s at ≡ None → call ≡ 0
 
 -- how much that is: a record has at least two bytes and at most 16,384 calls
 unfoldable pub ahead : List ℕ → ℕ → ℕ → ℕ

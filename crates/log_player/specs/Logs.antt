@@ -1,9 +1,8 @@
 -- A whole log: what it is answered, and the bytes that it makes, from document 01, "The access log". Assumes nothing.
 use Rattle.std.specs.Prelude.{ℕ, List, length, get_or}
 use Rattle.log_records.specs.Records.{listed}
-use Rattle.log_scan.specs.Answers.{refused_within, returned_for, scanned_as, within_room}
+use Rattle.log_scan.specs.Answers.{LogAnswer, refused_within, returned_for, scanned_as, within_room}
 use Rattle.apu.specs.declared.Apu.{Apu}
-use Rattle.log_scan.specs.declared.answer.LogAnswer.{LogAnswer}
 use Rattle.log_player.specs.Playing.{unit_of_start, output}
 use Rattle.log_player.specs.Frames.{made_by}
 

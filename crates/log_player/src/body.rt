@@ -1,103 +1,86 @@
 // The record at a place of a log: where its body ends, and the write to one group that it may be.
 ghost use Rattle.std.specs.Prelude.{◌≡◌};
 ghost use Rattle.log_records.specs.Records.{cut_at};
-ghost use Rattle.log_player.specs.Bodies.{part_of, no_write, group_at, group_write_in};
+ghost use Rattle.log_player.specs.Bodies.{part_of, group_at, group_write_in};
 
-use log_records::cut::{Cut, cut_at};
+use log_records::cut::{CutShort, cut_at};
 use log_records::judge::word_at;
 
-// Whether a whole record is there, and the place after it.
-#[derive(Clone, Copy)]
-pub struct Part {
-    pub there: bool,
-    pub end: usize,
-}
-
-pub fn part_at(log: &[u8], at: usize) -> Part
+// The place after the record at a place, if a whole one is there.
+pub fn part_at(log: &[u8], at: usize) -> Option<usize>
     ensures { result ≡ part_of at (cut_at log.now at) }
 {
     match cut_at(log, at) {
-        Cut::End => Part {
-            there: false,
-            end: 0,
-        },
-        Cut::Short => Part {
-            there: false,
-            end: 0,
-        },
-        Cut::Body { len } => Part {
-            there: true,
-            end: at + 2 + len,
-        },
+        Ok(Some(len)) => Some(at + 2 + len),
+        Ok(None) | Err(CutShort) => None,
     }
 }
 
-// A write to a register of one group: the group is 1 pulse 1, 2 pulse 2, 3 wave, 4 noise, or 0 for no such write.
+// A group of registers: one channel's.
+#[derive(Clone, Copy)]
+pub enum Group {
+    Pulse1,
+    Pulse2,
+    Wave,
+    Noise,
+}
+
+// A write to a register of one group, by its place in the group.
 #[derive(Clone, Copy)]
 pub struct GroupWrite {
-    pub group: u8,
+    pub group: Group,
     pub offset: u16,
     pub value: u8,
 }
 
-fn no_write() -> GroupWrite
-    ensures { result ≡ no_write }
-{
-    GroupWrite {
-        group: 0,
-        offset: 0,
-        value: 0,
-    }
-}
-
 // A write of an address. The sweep register, FF10, and what comes after the groups are left to `write_register`.
-fn group_at(addr: u16, value: u8) -> GroupWrite
+fn group_at(addr: u16, value: u8) -> Option<GroupWrite>
     ensures { result ≡ group_at addr value }
 {
     if addr < 0xFF11 {
-        return no_write();
+        return None;
     }
     if addr < 0xFF15 {
-        return GroupWrite {
-            group: 1,
+        return Some(GroupWrite {
+            group: Group::Pulse1,
             offset: addr - 0xFF10,
             value,
-        };
+        });
     }
     if addr < 0xFF1A {
-        return GroupWrite {
-            group: 2,
+        return Some(GroupWrite {
+            group: Group::Pulse2,
             offset: addr - 0xFF15,
             value,
-        };
+        });
     }
     if addr < 0xFF1F {
-        return GroupWrite {
-            group: 3,
+        return Some(GroupWrite {
+            group: Group::Wave,
             offset: addr - 0xFF1A,
             value,
-        };
+        });
     }
     if addr < 0xFF24 {
-        return GroupWrite {
-            group: 4,
+        return Some(GroupWrite {
+            group: Group::Noise,
             offset: addr - 0xFF1F,
             value,
-        };
+        });
     }
-    no_write()
+    None
 }
 
 // The write to one group that a body is, with power on. In every version a write's body has four bytes, the first of them 01; what is no right address is no
 // group's. (By `judge`, a write and 16 calls took 3 % longer.)
-pub fn group_write(body: &[u8], power: bool) -> GroupWrite
+pub fn group_write(body: &[u8], power: bool) -> Option<GroupWrite>
     ensures { result ≡ group_write_in body.now power }
 {
     if body.len() != 4 {
-        return no_write();
+        return None;
     }
     if power & (body[0] == 1) {
         return group_at(word_at(body, 1), body[3]);
     }
-    no_write()
+    None
 }

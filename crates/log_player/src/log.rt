@@ -11,7 +11,7 @@ use apu_run::calls::Play;
 use clocks::distance::units_of;
 use clocks::meter::Meter;
 use log_records::cut::version_of;
-use log_scan::answer::{LogAnswer, is_done, scan_from, within};
+use log_scan::answer::{LogAnswer, scan_from, within};
 
 // The half-clock and the remainder that a unit has stored, from which its frames are counted.
 pub fn meter_of(apu: Apu) -> Meter
@@ -51,10 +51,7 @@ pub fn play_log(log: &[u8], out: &mut [u8]) -> LogAnswer
     ensures result_value { (refusal_of result ≡ refused_log log.now (length out.old)) × (returned_of result ≡ returned_log log.now) }
 {
     let apu = start(start_byte(log));
-    let answer = answer_on(apu, log, out.len());
-    if is_done(answer) {
-        play_list(Play { apu, at: 0 }, version_of(log), log, out);
-        return answer;
-    }
-    answer
+    let played = answer_on(apu, log, out.len())?;
+    play_list(Play { apu, at: 0 }, version_of(log), log, out);
+    Ok(played)
 }

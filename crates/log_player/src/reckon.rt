@@ -59,10 +59,9 @@ pub fn reckon(
     r.stored = stored;
     r.fell = false;
     loop {
-        let clocks = clocks_at(version, log, r.at);
-        if !clocks.right {
+        let Some(clocks) = clocks_at(version, log, r.at) else {
             return r;
-        }
+        };
         let divider = clocks.divider;
         let count = clocks.count as u32;
         let some = same_bit(clocks.double, divider, r.call, count - r.call);

@@ -9,10 +9,9 @@ use native.Mathlib.Omega.{arith}
 use borrow.Author.Tests.{leb-true, leb-false, le-leb, lt-leb}
 use lib.ListN.{length, get_or, take, drop, length-drop, length-append, get_or-append}
 use lib.Dec.{leb}
-use Rattle.log_records.specs.declared.cut.Cut.{Cut}
-use Rattle.log_records.specs.declared.cut.Cut.TheVariants.{End, Short, Body}
+use Rattle.std.specs.Prelude.{Some, None, Ok, Err}
 use Rattle.log_records.specs.Judge.{Judged, word, judge_of}
-use Rattle.log_records.specs.Records.{Parsed, done, short, item, cut_at, body_at, grow, records_from, records_step, unrolled}
+use Rattle.log_records.specs.Records.{Cut, Parsed, done, short, item, cut_at, body_at, grow, records_from, records_step, unrolled}
 use Rattle.log_records.specs.Records.{listed_as, version_of, listed}
 use Rattle.log_records.proofs.Framing.{body_fits, body_is, end_past, some_cut, at_end, at_short, at_body}
 
@@ -95,15 +94,15 @@ module _ (v : ℕ) (s : List ℕ) (k : ℕ) where
 
   -- by what stands at the place, and what is known of the rest
   first_shift : (i : ℕ) (c : Cut)
-      → ((n : ℕ) → c ≡ Body n → placeless (records_from v (drop k s) (i + 2 + n)) ≡ placeless (records_from v s (k + i + 2 + n)))
+      → ((n : ℕ) → c ≡ Ok (Some n) → placeless (records_from v (drop k s) (i + 2 + n)) ≡ placeless (records_from v s (k + i + 2 + n)))
       → placeless (grow v (drop k s) i (records_from v (drop k s)) c) ≡ placeless (grow v s (k + i) (records_from v s) c)
   unfolding placeless
-  first_shift i End rest = refl
-  first_shift i Short rest = refl
-  first_shift i (Body n) rest = ap₂ (λ (r : Judged) (p : Parsed). item 0 r p) (ap (judge_of v) (body_shift i n)) (rest n refl)
+  first_shift i (Ok None) rest = refl
+  first_shift i (Err fault) rest = refl
+  first_shift i (Ok (Some n)) rest = ap₂ (λ (r : Judged) (p : Parsed). item 0 r p) (ap (judge_of v) (body_shift i n)) (rest n refl)
 
   step_shift : (i : ℕ)
-      → ((n : ℕ) → cut_at s (k + i) ≡ Body n → placeless (records_from v (drop k s) (i + 2 + n)) ≡ placeless (records_from v s (k + i + 2 + n)))
+      → ((n : ℕ) → cut_at s (k + i) ≡ Ok (Some n) → placeless (records_from v (drop k s) (i + 2 + n)) ≡ placeless (records_from v s (k + i + 2 + n)))
       → placeless (records_from v (drop k s) i) ≡ placeless (records_from v s (k + i))
   step_shift i rest =
       ap placeless (records_step v (drop k s) i ∙ ap (grow v (drop k s) i (records_from v (drop k s))) (cut_shift i))
@@ -129,7 +128,7 @@ module _ (v : ℕ) (s more : List ℕ) where
       let here : at < length s = omega arith in
       ap₂ (λ (x y : ℕ). x * 256 + y) (get_or-append s more 0 at here) (get_or-append s more 0 (at + 1) h)
 
-  front_cut : (at n : ℕ) → cut_at s at ≡ Body n → cut_at (s ++ more) at ≡ Body n
+  front_cut : (at n : ℕ) → cut_at s at ≡ Ok (Some n) → cut_at (s ++ more) at ≡ Ok (Some n)
   front_cut at n e =
       let b = body_fits s at n e in
       some_cut (s ++ more) at n (rw (length-append s more) (omega arith)) (front_word at (omega arith) ∙ body_is s at n e)
@@ -151,11 +150,11 @@ module _ (v : ℕ) (s more : List ℕ) where
   step_join : (at : ℕ) (c : Cut) → cut_at s at ≡ c → at ≤ length s → whole (records_from v s at) ≡ true
       → ((n : ℕ) → at + 2 + n ≤ length s → whole (records_from v s (at + 2 + n)) ≡ true → Joins (at + 2 + n)) → Joins at
   unfolding placeless joined whole
-  step_join at End e h w rest =
+  step_join at (Ok None) e h w rest =
       let here : at ≡ length s = le_antisymm h (end_past s at e) in
       rw (at_end v s at e) (rw here behind)
-  step_join at Short e h w rest = let z : ◌≡◌ {A = Bool} false true = rw (at_short v s at e) at w in let y : ◌≡◌ {A = ℕ} 0 1 = cc in absurd (omega arith)
-  step_join at (Body n) e h w rest =
+  step_join at (Err fault) e h w rest = let z : ◌≡◌ {A = Bool} false true = rw (at_short v s at e) at w in let y : ◌≡◌ {A = ℕ} 0 1 = cc in absurd (omega arith)
+  step_join at (Ok (Some n)) e h w rest =
       let b = body_fits s at n e in
       let r = rest n b (rw (at_body v s at n e) at w) in
       rw (at_body v s at n e, at_body v (s ++ more) at n (front_cut at n e), front_body at n b, r)

@@ -1,19 +1,20 @@
 -- What is known of a record that the judge takes. Assumes nothing.
 use Prim.Native.Nat.{ℕ, ◌≤◌}
-use mathlib.Core.Path.{◌≡◌, refl, subst}
+use mathlib.Core.Path.{◌≡◌, refl, sym, ap, subst}
 use mathlib.Core.List.{List}
 use mathlib.Core.Bool.{Bool, true, false, ◌&&◌}
 use native.Mathlib.Omega.{arith}
 use lib.Dec.{leb, eqb}
 use lib.ListN.{length, get_or}
 use borrow.Author.Tests.{leb-true, eqb-true, eq-eqb, ne_eqb}
-use Rattle.std.specs.Prelude.{Ok, Err}
+use Rattle.std.specs.Prelude.{Some, None, Ok, Err}
 use Rattle.ground.specs.Pick.{pick}
 use Rattle.ground.proofs.Cases.{both_ways, pick_holds, pick_false, and_left, and_right}
 use Rattle.log_records.specs.Divider.{phase_of}
-use Rattle.log_records.specs.Judge.{Judged, wrong, write_of, read_of, clock_of, pcm_of, judge_of, no_clocks, clocks_of}
+use Rattle.log_records.specs.Judge.{Judged, wrong, write_of, read_of, clock_of, pcm_of, judge_of, clocks_of}
 use Rattle.log_records.specs.Judge.{clock_length, divider_in, count_in, fair_of}
 use Rattle.log_records.specs.declared.divider.Divider.{Divider}
+use Rattle.log_records.specs.declared.judge.Clocks.{Clocks}
 use Rattle.log_records.specs.declared.judge.Record.TheVariants.{Write, Read, Clock, Pcm}
 
 -- some calls, and no more than 16,384
@@ -56,16 +57,16 @@ pub clock_long : (version : ℕ) → (5 ≤ clock_length version) × (clock_leng
 unfolding clock_length
 clock_long v = both_ways (λ (n : ℕ). (5 ≤ n) × (n ≤ 6)) _ (omega arith, omega arith) (omega arith, omega arith)
 
-other_kind : (end version : ℕ) (s : List ℕ) → eqb (get_or s 0 0) 3 ≡ false → clocks_of end (judge_of version s) ≡ no_clocks
+other_kind : (end version : ℕ) (s : List ℕ) → eqb (get_or s 0 0) 3 ≡ false → clocks_of end (judge_of version s) ≡ None
 unfolding judge_of write_of read_of pcm_of
 other_kind end v s e =
-    both_ways None _ refl
-    (both_ways None _ (both_ways None _ (both_ways None _ refl refl) refl)
-    (both_ways None _ (both_ways None _ (both_ways None _ refl refl) refl)
-    (rw (pick_false _ _ _ e) (both_ways None _ (both_ways None _ refl refl) refl))))
+    both_ways NoClocks _ refl
+    (both_ways NoClocks _ (both_ways NoClocks _ (both_ways NoClocks _ refl refl) refl)
+    (both_ways NoClocks _ (both_ways NoClocks _ (both_ways NoClocks _ refl refl) refl)
+    (rw (pick_false _ _ _ e) (both_ways NoClocks _ (both_ways NoClocks _ refl refl) refl))))
   where
-    None : Judged → Type 0
-    None r = clocks_of end r ≡ no_clocks
+    NoClocks : Judged → Type 0
+    NoClocks r = clocks_of end r ≡ None
 
 module _ (end v : ℕ) (s : List ℕ) (long : length s ≡ clock_length v) where
   clock-kind : eqb (get_or s 0 0) 3 ≡ true → judge_of v s ≡ clock_of v s
@@ -78,34 +79,38 @@ module _ (end v : ℕ) (s : List ℕ) (long : length s ≡ clock_length v) where
   fair = fair_of (get_or s 1 0) (phase_of (divider_in v s)) (count_in v s)
 
   pub clocks_right : (eqb (get_or s 0 0) 3 && fair) ≡ true
-      → clocks_of end (judge_of v s) ≡ record { right = true; double = eqb (get_or s 1 0) 1; divider = divider_in v s; count = count_in v s; end = end }
+      → clocks_of end (judge_of v s) ≡ Some (record { double = eqb (get_or s 1 0) 1; divider = divider_in v s; count = count_in v s; end = end })
   unfolding clock_of pick
   clocks_right e =
       rw (clock-kind (and_left (eqb (get_or s 0 0) 3) fair e), eq-eqb _ _ long, and_right (eqb (get_or s 0 0) 3) fair e)
 
-  pub clocks_none : (eqb (get_or s 0 0) 3 && fair) ≡ false → clocks_of end (judge_of v s) ≡ no_clocks
+  pub clocks_none : (eqb (get_or s 0 0) 3 && fair) ≡ false → clocks_of end (judge_of v s) ≡ None
   unfolding clock_of pick
   clocks_none e = go (eqb (get_or s 0 0) 3) refl e
     where
-      go : (b : Bool) → eqb (get_or s 0 0) 3 ≡ b → (b && fair) ≡ false → clocks_of end (judge_of v s) ≡ no_clocks
+      go : (b : Bool) → eqb (get_or s 0 0) 3 ≡ b → (b && fair) ≡ false → clocks_of end (judge_of v s) ≡ None
       go true k h = rw (clock-kind k, eq-eqb _ _ long, h)
       go false k h = other_kind end v s k
 
 -- ---- and the record that it is
-pub clock_is : (end : ℕ) (r : Judged) → (clocks_of end r).right ≡ true → let c = clocks_of end r in r ≡ Ok (Clock c.double c.divider c.count)
+pub clock_is : (end : ℕ) (r : Judged) {c : Clocks} → clocks_of end r ≡ Some c → r ≡ Ok (Clock c.double c.divider c.count)
 clock_is end (Ok (Write addr value)) e = let z : ◌≡◌ {A = ℕ} 0 1 = cc in absurd (omega arith)
 clock_is end (Ok (Read addr)) e = let z : ◌≡◌ {A = ℕ} 0 1 = cc in absurd (omega arith)
-clock_is end (Ok (Clock double divider count)) e = refl
+clock_is end (Ok (Clock double divider count)) {c} e =
+    let same : record { double = double; divider = divider; count = count; end = end } ≡ c = cc in
+    ap (λ (x : Clocks). Ok (Clock x.double x.divider x.count)) same
 clock_is end (Ok Pcm) e = let z : ◌≡◌ {A = ℕ} 0 1 = cc in absurd (omega arith)
 clock_is end (Err fault) e = let z : ◌≡◌ {A = ℕ} 0 1 = cc in absurd (omega arith)
 
 -- which ends where it was said
-pub clock_ends : (end : ℕ) (r : Judged) → (clocks_of end r).right ≡ true → (clocks_of end r).end ≡ end
+pub clock_ends : (end : ℕ) (r : Judged) {c : Clocks} → clocks_of end r ≡ Some c → c.end ≡ end
 clock_ends end (Ok (Write addr value)) e = let z : ◌≡◌ {A = ℕ} 0 1 = cc in absurd (omega arith)
 clock_ends end (Ok (Read addr)) e = let z : ◌≡◌ {A = ℕ} 0 1 = cc in absurd (omega arith)
-clock_ends end (Ok (Clock double divider count)) e = refl
+clock_ends end (Ok (Clock double divider count)) {c} e =
+    let same : record { double = double; divider = divider; count = count; end = end } ≡ c = cc in
+    sym (ap (λ (x : Clocks). x.end) same)
 clock_ends end (Ok Pcm) e = let z : ◌≡◌ {A = ℕ} 0 1 = cc in absurd (omega arith)
 clock_ends end (Err fault) e = let z : ◌≡◌ {A = ℕ} 0 1 = cc in absurd (omega arith)
 
-pub clocks_few : (end version : ℕ) (s : List ℕ) → let c = clocks_of end (judge_of version s) in c.right ≡ true → (1 ≤ c.count) × (c.count ≤ 16384)
+pub clocks_few : (end version : ℕ) (s : List ℕ) {c : Clocks} → clocks_of end (judge_of version s) ≡ Some c → (1 ≤ c.count) × (c.count ≤ 16384)
 clocks_few end v s e = subst Few (clock_is end (judge_of v s) e) (judged_few v s)

@@ -1,5 +1,6 @@
 -- What a record's body says in a log of a version, from document 01, "The access log": "judged as a part by itself", and request 2026-02. Assumes nothing.
-use Rattle.std.specs.Prelude.{ℕ, ◌+◌, ◌-◌, ◌*◌, List, Bool, true, false, ◌&&◌, length, get_or, leb, eqb, Result, Ok, Err}
+use Rattle.std.specs.Prelude.{ℕ, ◌+◌, ◌-◌, ◌*◌, List, Bool, ◌&&◌, length, get_or, leb, eqb}
+use Rattle.std.specs.Prelude.{Option, Some, None, Result, Ok, Err}
 use Rattle.ground.specs.Pick.{pick}
 use Rattle.ground.specs.Num.{is_sound}
 use Rattle.log_records.specs.Divider.{phase_of}
@@ -69,13 +70,10 @@ judge_of version s =
 
 -- ---- clock records by themselves: for the players alone
 
-abbrev pub no_clocks : Clocks
-no_clocks = record { right = false; double = false; divider = Standing 0; count = 0; end = 0 }
-
 -- what a clock record says that ends at a place; no other record is one
-abbrev pub clocks_of : ℕ → Judged → Clocks
-clocks_of end (Ok (Write addr value)) = no_clocks
-clocks_of end (Ok (Read addr)) = no_clocks
-clocks_of end (Ok (Clock double divider count)) = record { right = true; double = double; divider = divider; count = count; end = end }
-clocks_of end (Ok Pcm) = no_clocks
-clocks_of end (Err fault) = no_clocks
+abbrev pub clocks_of : ℕ → Judged → Option Clocks
+clocks_of end (Ok (Write addr value)) = None
+clocks_of end (Ok (Read addr)) = None
+clocks_of end (Ok (Clock double divider count)) = Some (record { double = double; divider = divider; count = count; end = end })
+clocks_of end (Ok Pcm) = None
+clocks_of end (Err fault) = None

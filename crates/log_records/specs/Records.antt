@@ -1,18 +1,25 @@
 -- A log of a version as a row of records, each with its place, from document 01, "The access log". Assumes nothing.
 use Rattle.std.specs.Prelude.{ℕ, zero, suc, ◌+◌, ◌-◌, ◌≤◌, ◌≡◌, refl, List, [], ◌∷◌, length, get_or, take, drop, ltb, leb, eqb}
+use Rattle.std.specs.Prelude.{Option, Some, None, Result, Ok, Err}
 use Rattle.std.proofs.Common.{arith, le-leb}
 use Rattle.ground.specs.Pick.{pick}
 use Rattle.log_records.specs.declared.judge.Clocks.{Clocks}
-use Rattle.log_records.specs.declared.cut.Cut.{Cut}
-use Rattle.log_records.specs.declared.cut.Cut.TheVariants.{End, Short, Body}
-use Rattle.log_records.specs.Judge.{Judged, word, clock_length, judge_of, no_clocks, clocks_of}
+use Rattle.log_records.specs.declared.cut.CutShort.{CutShort}
+use Rattle.log_records.specs.Judge.{Judged, word, clock_length, judge_of, clocks_of}
+
+-- how a log goes on: with a body of so many bytes, not at all, or with a record cut short
+abbrev pub Cut : Type 0
+Cut = Result (Option ℕ) CutShort
+
+abbrev pub cut_off : Cut
+cut_off = Err (record {})
 
 -- "two length bytes, big-endian, and the body of that many bytes"; else the log ends here, or "a record cut short"
 unfoldable pub cut_at : List ℕ → ℕ → Cut
 cut_at s at =
-    pick (leb (length s) at) End
-    (pick (ltb (length s - at) 2) Short
-    (pick (ltb (length s - at - 2) (word s at)) Short (Body (word s at))))
+    pick (leb (length s) at) (Ok None)
+    (pick (ltb (length s - at) 2) cut_off
+    (pick (ltb (length s - at - 2) (word s at)) cut_off (Ok (Some (word s at)))))
 
 -- the body at a place: n bytes after the two of its length
 abbrev pub body_at : List ℕ → ℕ → ℕ → List ℕ
@@ -22,11 +29,11 @@ body_at s at n = take n (drop (at + 2) s)
 abbrev pub clock_end : ℕ → ℕ → ℕ
 clock_end version at = at + 2 + clock_length version
 
-unfoldable pub clocks_at : ℕ → List ℕ → ℕ → Clocks
+unfoldable pub clocks_at : ℕ → List ℕ → ℕ → Option Clocks
 clocks_at version s at =
     let n = clock_length version in
-    pick (leb (clock_end version at) (length s)) (pick (eqb (word s at) n) (clocks_of (clock_end version at) (judge_of version (body_at s at n))) no_clocks)
-    no_clocks
+    pick (leb (clock_end version at) (length s)) (pick (eqb (word s at) n) (clocks_of (clock_end version at) (judge_of version (body_at s at n))) None)
+    None
 
 -- the records in order, each with the place of its first length byte; the row ends where the log does, or at a record cut short
 pub data Parsed : Type 0 where
@@ -36,9 +43,9 @@ pub data Parsed : Type 0 where
 
 -- what stands at a place, in front of what `rest` says of the next
 abbrev pub grow : ℕ → List ℕ → ℕ → (ℕ → Parsed) → Cut → Parsed
-grow version s at rest End = done
-grow version s at rest Short = short at
-grow version s at rest (Body n) = item at (judge_of version (body_at s at n)) (rest (at + 2 + n))
+grow version s at rest (Ok None) = done
+grow version s at rest (Err fault) = short at
+grow version s at rest (Ok (Some n)) = item at (judge_of version (body_at s at n)) (rest (at + 2 + n))
 
 -- the records from a place on, but no more than so many
 unfoldable pub parse : ℕ → ℕ → List ℕ → ℕ → Parsed
@@ -52,9 +59,9 @@ records_from version s at = parse version (length s) s at
 -- this and the next two are facts with their proofs: rests that agree on the next place give the same row
 grow_same : (version : ℕ) (s : List ℕ) (at : ℕ) (f g : ℕ → Parsed) (k : Cut) → ((n : ℕ) → f (at + 2 + n) ≡ g (at + 2 + n))
     → grow version s at f k ≡ grow version s at g k
-grow_same v s at f g End h = refl
-grow_same v s at f g Short h = refl
-grow_same v s at f g (Body n) h = rw (h n)
+grow_same v s at f g (Ok None) h = refl
+grow_same v s at f g (Err fault) h = refl
+grow_same v s at f g (Ok (Some n)) h = rw (h n)
 
 -- two counts that are both enough give the same
 parse_same : (version f g : ℕ) (s : List ℕ) (at : ℕ) → length s - at ≤ f → length s - at ≤ g → parse version f s at ≡ parse version g s at

@@ -4,29 +4,26 @@ ghost use Rattle.log_records.specs.Records.{cut_at, version_of};
 
 use crate::judge::word_at;
 
-// How the log goes on at a place: it ends, a record is cut short, or there is a body of so many bytes.
+// Refusal 5: the log ends within a record.
 #[derive(Clone, Copy)]
-pub enum Cut {
-    End,
-    Short,
-    Body { len: usize },
-}
+pub struct CutShort;
 
-pub fn cut_at(log: &[u8], at: usize) -> Cut
+// How the log goes on at a place: with a body of so many bytes, or it ends there.
+pub fn cut_at(log: &[u8], at: usize) -> Result<Option<usize>, CutShort>
     ensures { result ≡ cut_at log.now at }
 {
     let n = log.len();
     if n <= at {
-        return Cut::End;
+        return Ok(None);
     }
     if n - at < 2 {
-        return Cut::Short;
+        return Err(CutShort);
     }
     let len = word_at(log, at) as usize;
     if n - at - 2 < len {
-        return Cut::Short;
+        return Err(CutShort);
     }
-    Cut::Body { len }
+    Ok(Some(len))
 }
 
 // A log's version; 0 where it has none, and is refused.

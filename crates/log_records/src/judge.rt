@@ -1,6 +1,6 @@
 // The judge of a record's body: a part of the log, which starts in its middle.
 ghost use Rattle.std.specs.Prelude.{◌≡◌, ◌+◌, ◌<◌, ◌≤◌, length};
-ghost use Rattle.log_records.specs.Judge.{word, write_of, read_of, clock_length, divider_in, fair_of, clock_of, pcm_of, judge_of, no_clocks, clocks_of};
+ghost use Rattle.log_records.specs.Judge.{word, write_of, read_of, clock_length, divider_in, fair_of, clock_of, pcm_of, judge_of, clocks_of};
 ghost use Rattle.log_records.specs.Divider.{phase_of};
 ghost use Rattle.log_records.specs.Records.{clocks_at};
 
@@ -132,30 +132,17 @@ fn judge_clock(version: u8, body: &[u8]) -> Result<Record, WrongRecord>
     }
 }
 
-// A clock record and the place after it, or none.
+// A clock record and the place after it.
 #[derive(Clone, Copy)]
 pub struct Clocks {
-    pub right: bool,
     pub double: bool,
     pub divider: Divider,
     pub count: u16,
     pub end: usize,
 }
 
-fn no_clocks() -> Clocks
-    ensures { result ≡ no_clocks }
-{
-    Clocks {
-        right: false,
-        double: false,
-        divider: Divider::Standing { byte: 0 },
-        count: 0,
-        end: 0,
-    }
-}
-
 // What a body of a clock record's length says, where it is one, that ends at a place.
-fn clocks_in(version: u8, body: &[u8], end: usize) -> Clocks
+fn clocks_in(version: u8, body: &[u8], end: usize) -> Option<Clocks>
     requires { length body.now ≡ clock_length version }
     ensures { result ≡ clocks_of end (judge_of version body.now) }
 {
@@ -164,39 +151,38 @@ fn clocks_in(version: u8, body: &[u8], end: usize) -> Clocks
     let divider = divider_in(version, body);
     let count = word_at(body, length - 2);
     if (body[0] == 3) & fair(speed, divider, count) {
-        return Clocks {
-            right: true,
+        return Some(Clocks {
             double: speed == 1,
             divider,
             count,
             end,
-        };
+        });
     }
-    no_clocks()
+    None
 }
 
 // The clock record at a place of a log of this version, if one stands there.
-fn clocks_of(version: u8, log: &[u8], at: usize) -> Clocks
+fn clocks_of(version: u8, log: &[u8], at: usize) -> Option<Clocks>
     ensures { result ≡ clocks_at version log.now at }
 {
     let length = clock_length(version);
     let n = log.len();
     if n < length + 2 {
-        return no_clocks();
+        return None;
     }
     if n - length - 2 < at {
-        return no_clocks();
+        return None;
     }
     if word_at(log, at) as usize == length {
         let from = at + 2;
         let to = from + length;
         return clocks_in(version, &log[from..to], to);
     }
-    no_clocks()
+    None
 }
 
 // The same by the version: each arm is compiled for its own length. (In one for both, records of one call took half as long again.)
-pub fn clocks_at(version: u8, log: &[u8], at: usize) -> Clocks
+pub fn clocks_at(version: u8, log: &[u8], at: usize) -> Option<Clocks>
     ensures { result ≡ clocks_at version log.now at }
 {
     if version == 1 {

@@ -15,15 +15,12 @@ use Rattle.ground.proofs.Cases.{pick_holds, both_ways, and_right}
 use Rattle.log_records.specs.declared.divider.Divider.{Divider}
 use Rattle.log_records.specs.Divider.{phase_of}
 use Rattle.log_records.specs.declared.judge.Record.TheVariants.{Clock}
-use Rattle.log_records.specs.declared.cut.Cut.{Cut}
-use Rattle.log_records.specs.declared.cut.Cut.TheVariants.{End, Short, Body}
-use Rattle.log_scan.specs.declared.answer.LogAnswer.{LogAnswer}
-use Rattle.log_scan.specs.declared.answer.LogAnswer.TheVariants.{Done, TooLong, BadStart, WrongRecord, TooShort}
+use Rattle.log_scan.specs.declared.answer.LogRefusal.TheVariants.{TooLong, BadStart, WrongRecord, TooShort}
 use Rattle.log_records.specs.Judge.{Judged, wrong, word, write_of, read_of, divider_in, count_in, fair_of, clock_of, pcm_of, judge_of}
-use Rattle.log_records.specs.Records.{Parsed, cut_at, body_at, grow, parse, records_from, unrolled, listed_as, version_of, records_of}
+use Rattle.log_records.specs.Records.{Cut, cut_off, Parsed, cut_at, body_at, grow, parse, records_from, unrolled, listed_as, version_of, records_of}
 use Rattle.log_scan.specs.Sums.{asks, halves_of, read_bytes_of, sum_of}
 use Rattle.log_scan.specs.Scan.{wrong_mark, wrong_in, summed}
-use Rattle.log_scan.specs.Answers.{refusal_of, returned_of, bytes_by, or_wrong, scanned_as, scanned_from, within_room, Small}
+use Rattle.log_scan.specs.Answers.{LogAnswer, refusal_of, returned_of, bytes_by, or_wrong, scanned_as, scanned_from, within_room, Small}
 use Rattle.clocks.specs.Calls.{K}
 use Rattle.clocks.specs.Metered.{Held}
 use Rattle.clocks.specs.declared.meter.Meter.{Meter}
@@ -77,9 +74,9 @@ module _ (v : ℕ) (f : Judged → ℕ) (m : ℕ) (low : (s : List ℕ) → f (j
   first_low : (s : List ℕ) (at : ℕ) (rest : ℕ → Parsed) (k : Cut) → cut_at s at ≡ k
       → ((n : ℕ) → sum_of f (unrolled (rest (at + 2 + n))) ≤ m * (length s - (at + 2 + n))) → sum_of f (unrolled (grow v s at rest k)) ≤ m * (length s - at)
   unfolding sum_of
-  first_low s at rest End e h = omega arith
-  first_low s at rest Short e h = omega arith
-  first_low s at rest (Body k) e h =
+  first_low s at rest (Ok None) e h = omega arith
+  first_low s at rest (Err fault) e h = omega arith
+  first_low s at rest (Ok (Some k)) e h =
       let b = body_fits s at k e in
       more _ _ (length s - at) (length s - (at + 2 + k)) (low (body_at s at k)) (h k) (omega arith)
 
@@ -123,12 +120,12 @@ module _ (v : ℕ) (s : List ℕ) (h : length s ≤ 65536) where
 -- ---- the number returned stays in 48 bits
 
 -- where a record is cut short, the log has not ended
-short_inside : (s : List ℕ) (at : ℕ) → cut_at s at ≡ Short → at ≤ length s
+short_inside : (s : List ℕ) (at : ℕ) → cut_at s at ≡ cut_off → at ≤ length s
 unfolding pick cut_at
 short_inside s at e = go (leb (length s) at) refl e
   where
     go : (a : Bool) → leb (length s) at ≡ a
-        → pick a End (pick (ltb (length s - at) 2) Short (pick (ltb (length s - at - 2) (word s at)) Short (Body (word s at)))) ≡ Short
+        → pick a (Ok None) (pick (ltb (length s - at) 2) cut_off (pick (ltb (length s - at - 2) (word s at)) cut_off (Ok (Some (word s at))))) ≡ cut_off
         → at ≤ length s
     go true x h = let f : ◌≡◌ {A = ℕ} 0 1 = cc in omega arith
     go false x h = le_of_lt (leb-false (length s) at x)
@@ -149,9 +146,9 @@ mark_inside top place (Err fault) h = h
 first_inside : (v : ℕ) (s : List ℕ) (at : ℕ) (rest : ℕ → Parsed) (k : Cut) → cut_at s at ≡ k
     → ((n : ℕ) → Inside (length s) (wrong_in (rest (at + 2 + n)))) → Inside (length s) (wrong_in (grow v s at rest k))
 unfolding wrong_in
-first_inside v s at rest End e h = omega arith
-first_inside v s at rest Short e h = short_inside s at e
-first_inside v s at rest (Body n) e h =
+first_inside v s at rest (Ok None) e h = omega arith
+first_inside v s at rest (Err fault) e h = short_inside s at e
+first_inside v s at rest (Ok (Some n)) e h =
     let b = body_fits s at n e in
     let r = judge_of v (body_at s at n) in
     or_inside (length s) (wrong_mark at r) (wrong_in (rest (at + 2 + n))) (mark_inside (length s) at r (omega arith)) (h n)
@@ -167,11 +164,8 @@ Packs a = returned_of a < 2 ^ 48
 
 room_packs : (room : ℕ) (a : LogAnswer) → Packs a → Packs (within_room room a)
 unfolding within_room
-room_packs room (Done w f k r) h = both_ways Packs _ h h
-room_packs room TooLong h = h
-room_packs room BadStart h = h
-room_packs room (WrongRecord p) h = h
-room_packs room (TooShort n) h = h
+room_packs room (Ok played) h = both_ways Packs _ h h
+room_packs room (Err r) h = h
 
 wrong_packs : (top : ℕ) (m : Option ℕ) (a : LogAnswer) → top ≤ 65536 → Inside top m → Packs a → Packs (or_wrong m a)
 wrong_packs top None a t i h = h
@@ -190,8 +184,8 @@ pub answer_packs : (m : Meter) → Held K m → (room : ℕ) (s : List ℕ) → 
 answer_packs m k room s = room_packs room (scanned_from m s) (scanned_packs m k s)
 
 pub refusal_le : (a : LogAnswer) → refusal_of a ≤ 6
-refusal_le (Done w f k r) = omega arith
-refusal_le TooLong = omega arith
-refusal_le BadStart = omega arith
-refusal_le (WrongRecord p) = omega arith
-refusal_le (TooShort n) = omega arith
+refusal_le (Ok played) = omega arith
+refusal_le (Err TooLong) = omega arith
+refusal_le (Err BadStart) = omega arith
+refusal_le (Err (WrongRecord p)) = omega arith
+refusal_le (Err (TooShort n)) = omega arith

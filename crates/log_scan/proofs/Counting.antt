@@ -5,13 +5,12 @@ use mathlib.Core.List.{List, [], ◌∷◌, ◌++◌}
 use native.Mathlib.Omega.{arith}
 use native.Mathlib.Nat.{add_assoc, add-zero, zero-add}
 use lib.ListN.{length, length-append}
-use Rattle.std.specs.Prelude.{Option, None, Some}
+use Rattle.std.specs.Prelude.{Option, None, Some, Ok}
 use Rattle.std.specs.Option.{option_or}
 use Rattle.log_records.specs.Judge.{Judged}
-use Rattle.log_records.specs.declared.cut.Cut.TheVariants.{End, Short}
 use Rattle.log_scan.specs.declared.scan.Found.{Found}
 use Rattle.log_scan.specs.declared.scan.Sums.{Sums}
-use Rattle.log_records.specs.Records.{Parsed, item, cut_at, records_from, unrolled}
+use Rattle.log_records.specs.Records.{cut_off, Parsed, item, cut_at, records_from, unrolled}
 use Rattle.log_scan.specs.Sums.{asks, halves_of, read_bytes_of, sum_of}
 use Rattle.log_scan.specs.Scan.{Fits, wrong_in, summed, added, both, nothing, found_in, found_all}
 use Rattle.log_records.proofs.Framing.{at_end, at_short}
@@ -71,7 +70,7 @@ pub begun : (v : ℕ) (s : List ℕ) → Going v s 2 nothing
 begun v s = record { state = none_both (found_all (records_from v s 2)); inside = omega arith }
 
 module _ {v : ℕ} {s : List ℕ} {at : ℕ} {t : Found} (g : Going v s at t) where
-  pub ended : cut_at s at ≡ End → t ≡ found_all (records_from v s 2)
+  pub ended : cut_at s at ≡ Ok None → t ≡ found_all (records_from v s 2)
   unfolding wrong_in sum_of
   ended e = sym (both_none t) ∙ rw (at_end v s at e) at g.state
 
@@ -80,7 +79,7 @@ module _ {v : ℕ} {s : List ℕ} {at : ℕ} {t : Found} (g : Going v s at t) wh
   part a c d top p q r = omega arith
 
   -- a record cut short adds nothing to the sums
-  pub cut_short : cut_at s at ≡ Short → ◌≡◌ {A = Found} (record { wrong = option_or t.wrong (Some at); sums = t.sums }) (found_all (records_from v s 2))
+  pub cut_short : cut_at s at ≡ cut_off → ◌≡◌ {A = Found} (record { wrong = option_or t.wrong (Some at); sums = t.sums }) (found_all (records_from v s 2))
   unfolding wrong_in sum_of
   cut_short e =
       let sums = ap (λ (x : Found). x.sums) (both_none t) in

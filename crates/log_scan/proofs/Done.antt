@@ -11,11 +11,12 @@ use lib.Dec.{ltb}
 use Rattle.std.specs.Prelude.{Option, None, Some}
 use Rattle.ground.specs.Pick.{pick}
 use Rattle.ground.proofs.Cases.{pick_holds}
-use Rattle.log_scan.specs.declared.answer.LogAnswer.{LogAnswer}
-use Rattle.log_scan.specs.declared.answer.LogAnswer.TheVariants.{Done, TooLong, BadStart, WrongRecord, TooShort}
+use Rattle.std.specs.Prelude.{Ok, Err}
+use Rattle.log_scan.specs.declared.answer.Played.{Played}
+use Rattle.log_scan.specs.declared.answer.LogRefusal.TheVariants.{TooShort}
 use Rattle.log_records.specs.Records.{records_of, listed}
 use Rattle.log_scan.specs.Scan.{wrong_in, summed}
-use Rattle.log_scan.specs.Answers.{is_done, bad_start, done_as, or_wrong, scanned_as, within_room, out_after}
+use Rattle.log_scan.specs.Answers.{LogAnswer, is_done, bad_start, done_as, or_wrong, scanned_as, within_room, out_after}
 
 -- a good start is of two bytes and more
 start_long : (s : List ℕ) → bad_start s ≡ false → 2 ≤ length s
@@ -44,18 +45,15 @@ module _ (room : ℕ) where
   -- what was done with less room was done
   scanned : (a : LogAnswer) → is_done (within_room room a) ≡ true → is_done a ≡ true
   unfolding within_room
-  scanned (Done w f k r) d = refl
-  scanned TooLong d = d
-  scanned BadStart d = d
-  scanned (WrongRecord p) d = d
-  scanned (TooShort n) d = d
+  scanned (Ok played) d = refl
+  scanned (Err r) d = d
 
   -- and had room
-  fits : (a b c d : ℕ) → is_done (within_room room (Done a b c d)) ≡ true → a ≤ room
+  fits : (p : Played) → is_done (within_room room (Ok p)) ≡ true → p.written ≤ room
   unfolding pick within_room
-  fits a b c d e = ltb-false room a (go (ltb room a) e)
+  fits p e = ltb-false room p.written (go (ltb room p.written) e)
     where
-      go : (t : Bool) → is_done (pick t (TooShort a) (Done a b c d)) ≡ true → t ≡ false
+      go : (t : Bool) → is_done (pick t (Err (TooShort p.written)) (Ok p)) ≡ true → t ≡ false
       go true e = cc
       go false e = refl
 
@@ -68,7 +66,7 @@ module _ (room : ℕ) where
 
     marked : (m : Option ℕ) → Fits (or_wrong m (done_as n f (summed (listed s))))
     unfolding within_room
-    marked None d = fits n _ _ _ d
+    marked None d = fits _ d
     marked (Some p) d = never _ _ d
 
     pub done_fits : Fits (scanned_as n f s)
@@ -102,15 +100,9 @@ module _ (room : ℕ) where
 
 -- the output after it
 pub done_out : (a : LogAnswer) (bytes out : List ℕ) → is_done a ≡ true → out_after a bytes out ≡ bytes ++ drop (length bytes) out
-done_out (Done w f k r) bytes out e = refl
-done_out TooLong bytes out e = cc
-done_out BadStart bytes out e = cc
-done_out (WrongRecord p) bytes out e = cc
-done_out (TooShort n) bytes out e = cc
+done_out (Ok played) bytes out e = refl
+done_out (Err r) bytes out e = cc
 
 pub refused_out : (a : LogAnswer) (bytes out : List ℕ) → is_done a ≡ false → out_after a bytes out ≡ out
-refused_out (Done w f k r) bytes out e = cc
-refused_out TooLong bytes out e = refl
-refused_out BadStart bytes out e = refl
-refused_out (WrongRecord p) bytes out e = refl
-refused_out (TooShort n) bytes out e = refl
+refused_out (Ok played) bytes out e = cc
+refused_out (Err r) bytes out e = refl

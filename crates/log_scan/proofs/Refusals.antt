@@ -9,16 +9,16 @@ use Rattle.ground.specs.Pick.{pick}
 use Rattle.clocks.specs.declared.meter.Meter.{Meter}
 use Rattle.log_records.specs.Records.{records_of, listed}
 use Rattle.log_scan.specs.Scan.{wrong_in, summed}
-use Rattle.log_scan.specs.Answers.{refusal_of, returned_of, is_done, too_long, bad_start, refused_for, returned_for, refused_within}
+use Rattle.log_scan.specs.Answers.{LogAnswer, refusal_of, returned_of, is_done, too_long, bad_start, refused_for, returned_for, refused_within}
 use Rattle.log_scan.specs.Answers.{bytes_by, done_as, or_wrong, scanned_as, scanned_from, within_room}
-use Rattle.log_scan.specs.declared.answer.LogAnswer.{LogAnswer}
-use Rattle.log_scan.specs.declared.answer.LogAnswer.TheVariants.{Done, TooLong, BadStart, WrongRecord, TooShort}
+use Rattle.std.specs.Prelude.{Ok, Err}
+use Rattle.log_scan.specs.declared.answer.LogRefusal.TheVariants.{TooLong, BadStart, TooShort}
 use Rattle.log_scan.specs.declared.scan.Sums.{Sums}
 
 module _ (written frames : ℕ) (sums : Sums) where
   -- an answer by whether the log is too long, has a bad start, and where its first wrong record is
   abbrev answer : Bool → Bool → Option ℕ → LogAnswer
-  answer long bad m = pick long TooLong (pick bad BadStart (or_wrong m (done_as written frames sums)))
+  answer long bad m = pick long (Err TooLong) (pick bad (Err BadStart) (or_wrong m (done_as written frames sums)))
 
   refusal : (long bad : Bool) (m : Option ℕ) → refusal_of (answer long bad m) ≡ pick long 3 (pick bad 4 (pick (is_some m) 5 0))
   unfolding pick
@@ -42,7 +42,7 @@ module _ (written frames : ℕ) (sums : Sums) where
   last room false true m = refl
   last room false false None = short (ltb room written)
     where
-      short : (t : Bool) → refusal_of (pick t (TooShort written) (done_as written frames sums)) ≡ pick t 6 0
+      short : (t : Bool) → refusal_of (pick t (Err (TooShort written)) (done_as written frames sums)) ≡ pick t 6 0
       short true = refl
       short false = refl
   last room false false (Some p) = refl
@@ -50,27 +50,21 @@ module _ (written frames : ℕ) (sums : Sums) where
 -- room or none, the number returned is the same: the bytes needed are those that would be written
 same_number : (room : ℕ) (a : LogAnswer) → returned_of (within_room room a) ≡ returned_of a
 unfolding pick within_room
-same_number room (Done w f k r) = go (ltb room w)
+same_number room (Ok played) = go (ltb room played.written)
   where
-    go : (t : Bool) → returned_of (pick t (TooShort w) (Done w f k r)) ≡ w
+    go : (t : Bool) → returned_of (pick t (Err (TooShort played.written)) (Ok played)) ≡ played.written
     go true = refl
     go false = refl
-same_number room TooLong = refl
-same_number room BadStart = refl
-same_number room (WrongRecord p) = refl
-same_number room (TooShort n) = refl
+same_number room (Err r) = refl
 
 within_refusal : (room : ℕ) (a : LogAnswer) → refusal_of (within_room room a) ≡ pick (is_done a && ltb room (returned_of a)) 6 (refusal_of a)
 unfolding pick within_room
-within_refusal room (Done w f k r) = go (ltb room w)
+within_refusal room (Ok played) = go (ltb room played.written)
   where
-    go : (t : Bool) → refusal_of (pick t (TooShort w) (Done w f k r)) ≡ pick (true && t) 6 0
+    go : (t : Bool) → refusal_of (pick t (Err (TooShort played.written)) (Ok played)) ≡ pick (true && t) 6 0
     go true = refl
     go false = refl
-within_refusal room TooLong = refl
-within_refusal room BadStart = refl
-within_refusal room (WrongRecord p) = refl
-within_refusal room (TooShort n) = refl
+within_refusal room (Err r) = refl
 
 -- ---- of the scan's answer, of that within a room, and of both
 pub scan_refuses : (m : Meter) (s : List ℕ) {r : LogAnswer} → r ≡ scanned_from m s

@@ -1,33 +1,52 @@
 -- What a log is answered, and document 01's numbers for it: "What each call may refuse", 3 to 6. Assumes nothing.
-use Rattle.std.specs.Prelude.{ℕ, ◌+◌, ◌*◌, ◌^◌, ◌<◌, Bool, true, false, not, ◌&&◌, ◌||◌, List, [], ◌∷◌, ◌++◌, length, get_or, drop, ltb, leb, eqb}
+use Rattle.std.specs.Prelude.{ℕ, ◌+◌, ◌*◌, ◌^◌, ◌<◌, Bool, true, false, not, ◌&&◌, ◌||◌, List, [], ◌∷◌, ◌++◌, length, get_or, drop, ltb, leb, eqb, Result, Ok, Err}
 use Rattle.std.specs.Prelude.{Option, None, Some, is_some, unwrap_or}
 use Rattle.std.proofs.lemmas.List.Edits.{sets}
 use Rattle.ground.specs.Pick.{pick}
 use Rattle.clocks.specs.Calls.{K}
 use Rattle.clocks.specs.Metered.{frames_from}
 use Rattle.clocks.specs.declared.meter.Meter.{Meter}
-use Rattle.log_scan.specs.declared.answer.LogAnswer.{LogAnswer}
-use Rattle.log_scan.specs.declared.answer.LogAnswer.TheVariants.{Done, TooLong, BadStart, WrongRecord, TooShort}
+use Rattle.log_scan.specs.declared.answer.Played.{Played}
+use Rattle.log_scan.specs.declared.answer.LogRefusal.{LogRefusal}
+use Rattle.log_scan.specs.declared.answer.LogRefusal.TheVariants.{TooLong, BadStart, WrongRecord, TooShort}
 use Rattle.log_scan.specs.declared.scan.Sums.{Sums}
 use Rattle.log_items.specs.Items.{frame_length}
 use Rattle.log_records.specs.Records.{version_of, records_of, listed}
 use Rattle.log_scan.specs.Scan.{wrong_in, summed}
 
--- the refusal's number in document 01; 0 stands for none
-abbrev pub refusal_of : LogAnswer → ℕ
-refusal_of (Done written frames clocks records) = 0
-refusal_of TooLong = 3
-refusal_of BadStart = 4
-refusal_of (WrongRecord place) = 5
-refusal_of (TooShort needed) = 6
+-- what playing a log answers
+abbrev pub LogAnswer : Type 0
+LogAnswer = Result Played LogRefusal
+
+-- a refusal's number in document 01, and the "number returned" beside it
+abbrev pub number_of : LogRefusal → ℕ
+number_of TooLong = 3
+number_of BadStart = 4
+number_of (WrongRecord place) = 5
+number_of (TooShort needed) = 6
+
+abbrev pub number_returned : LogRefusal → ℕ
+number_returned TooLong = 0
+number_returned BadStart = 0
+number_returned (WrongRecord place) = place
+number_returned (TooShort needed) = needed
+
+-- an answer's refusal number, by the numbers of the refusals that it may have; 0 stands for none
+abbrev pub refusal_in : {T E : Type 0} → (E → ℕ) → Result T E → ℕ
+refusal_in number (Ok x) = 0
+refusal_in number (Err r) = number r
 
 -- "bytes written or number returned"
+abbrev pub returned_in : {E : Type 0} → (E → ℕ) → Result Played E → ℕ
+returned_in number (Ok played) = played.written
+returned_in number (Err r) = number r
+
+-- those of a log's answer
+abbrev pub refusal_of : LogAnswer → ℕ
+refusal_of a = refusal_in number_of a
+
 abbrev pub returned_of : LogAnswer → ℕ
-returned_of (Done written frames clocks records) = written
-returned_of TooLong = 0
-returned_of BadStart = 0
-returned_of (WrongRecord place) = place
-returned_of (TooShort needed) = needed
+returned_of a = returned_in number_returned a
 
 -- "result refusal × 2^48 + bytes written or number returned"
 abbrev pub packed : LogAnswer → ℕ
@@ -35,11 +54,8 @@ packed a = refusal_of a * 2 ^ 48 + returned_of a
 
 -- whether it is no refusal
 abbrev pub is_done : LogAnswer → Bool
-is_done (Done written frames clocks records) = true
-is_done TooLong = false
-is_done BadStart = false
-is_done (WrongRecord place) = false
-is_done (TooShort needed) = false
+is_done (Ok played) = true
+is_done (Err r) = false
 
 -- ---- what each refusal asks of a log's bytes
 
@@ -84,23 +100,27 @@ abbrev pub bytes_by : Meter → Sums → ℕ
 bytes_by m sums = frames_by m sums * frame_length + sums.read_bytes
 
 -- "The answer carries bytes written, frames, and the number of clock calls that the records asked for", and the records
-abbrev pub done_as : ℕ → ℕ → Sums → LogAnswer
-done_as written frames sums = Done written frames sums.calls sums.records
+abbrev pub played_as : ℕ → ℕ → Sums → Played
+played_as written frames sums = record { written = written; frames = frames; clocks = sums.calls; records = sums.records }
 
 -- with bytes and frames by the formula
-abbrev pub done_by : Meter → Sums → LogAnswer
-done_by m sums = done_as (bytes_by m sums) (frames_by m sums) sums
+abbrev pub played_by : Meter → Sums → Played
+played_by m sums = played_as (bytes_by m sums) (frames_by m sums) sums
+
+-- the answer that is no refusal
+abbrev pub done_as : ℕ → ℕ → Sums → LogAnswer
+done_as written frames sums = Ok (played_as written frames sums)
 
 -- 5: "a wrong record", or what is said of good ones
 abbrev pub or_wrong : Option ℕ → LogAnswer → LogAnswer
 or_wrong None a = a
-or_wrong (Some place) a = WrongRecord place
+or_wrong (Some place) a = Err (WrongRecord place)
 
 -- "3 to 6 are tried in that order": 3 to 5 of them, of a log that makes so many bytes and frames
 unfoldable pub scanned_as : ℕ → ℕ → List ℕ → LogAnswer
 scanned_as written frames s =
-    pick (too_long s) TooLong
-    (pick (bad_start s) BadStart
+    pick (too_long s) (Err TooLong)
+    (pick (bad_start s) (Err BadStart)
     (or_wrong (wrong_in (records_of s)) (done_as written frames (summed (listed s)))))
 
 -- with bytes and frames by the formula
@@ -109,27 +129,18 @@ scanned_from m s = let sums = summed (listed s) in scanned_as (bytes_by m sums) 
 
 -- 6: "output shorter than needed"
 unfoldable pub within_room : ℕ → LogAnswer → LogAnswer
-within_room room (Done written frames clocks records) = pick (ltb room written) (TooShort written) (Done written frames clocks records)
-within_room room TooLong = TooLong
-within_room room BadStart = BadStart
-within_room room (WrongRecord place) = WrongRecord place
-within_room room (TooShort needed) = TooShort needed
+within_room room (Ok played) = pick (ltb room played.written) (Err (TooShort played.written)) (Ok played)
+within_room room (Err r) = Err r
 
 -- the output after it: the bytes at its front, and "Bytes past those written stay"; with a refusal all of them stay
 abbrev pub out_after : LogAnswer → List ℕ → List ℕ → List ℕ
-out_after (Done written frames clocks records) bytes out = bytes ++ drop (length bytes) out
-out_after TooLong bytes out = out
-out_after BadStart bytes out = out
-out_after (WrongRecord place) bytes out = out
-out_after (TooShort needed) bytes out = out
+out_after (Ok played) bytes out = bytes ++ drop (length bytes) out
+out_after (Err r) bytes out = out
 
 -- lent numbers after it: frames, clock calls and records at the front where three fit; with a refusal all of them stay
-unfoldable pub counts_after : LogAnswer → List ℕ → List ℕ
-counts_after (Done written frames clocks records) counts = pick (leb 3 (length counts)) (sets counts 0 (frames ∷ clocks ∷ records ∷ [])) counts
-counts_after TooLong counts = counts
-counts_after BadStart counts = counts
-counts_after (WrongRecord place) counts = counts
-counts_after (TooShort needed) counts = counts
+unfoldable pub counts_after : {E : Type 0} → Result Played E → List ℕ → List ℕ
+counts_after (Ok played) counts = pick (leb 3 (length counts)) (sets counts 0 (played.frames ∷ played.clocks ∷ played.records ∷ [])) counts
+counts_after (Err r) counts = counts
 
 -- sums of which the bytes stay in 48 bits
 pub record Small (sums : Sums) : Type 0 where

@@ -1,36 +1,41 @@
 // What a log is answered: refusals 3 to 6, or what playing it makes. The bytes, frames and clock calls are counted here, before anything is played.
 ghost use Rattle.std.specs.Prelude.{◌≡◌, ◌&&◌, ltb};
+ghost use Rattle.std.proofs.Common.{rules};
 ghost use Rattle.ground.specs.Pick.{pick};
 ghost use Rattle.clocks.specs.Calls.{K};
 ghost use Rattle.clocks.specs.Metered.{Held};
 ghost use Rattle.log_records.specs.Records.{listed};
 ghost use Rattle.log_scan.specs.Scan.{summed};
 ghost use Rattle.log_scan.specs.Answers.{bad_start, is_done, refusal_of, returned_of, refused_for, returned_for, counts_after};
-ghost use Rattle.log_scan.specs.Answers.{Small, bytes_by, done_by, scanned_from, within_room};
+ghost use Rattle.log_scan.specs.Answers.{number_of, number_returned, refusal_in, returned_in};
+ghost use Rattle.log_scan.specs.Answers.{Small, bytes_by, played_by, scanned_from, within_room};
 
+use crate::refusal::Refusal;
 use crate::scan::{Sums, scan_list};
 use clocks::meter::{Meter, frames_from};
 use log_items::items::FRAME_BYTES;
 use log_records::cut::version_of;
 
-// What playing a log answers: what was done, or why it was refused.
+// What playing a log did: the bytes that it wrote, and how many frames, clock calls and records those came from.
 #[derive(Clone, Copy)]
-pub enum LogAnswer {
-    Done {
-        written: u64,
-        frames: u64,
-        clocks: u64,
-        records: u64,
-    },
+pub struct Played {
+    pub written: u64,
+    pub frames: u64,
+    pub clocks: u64,
+    pub records: u64,
+}
+
+// Why a log was refused.
+#[derive(Clone, Copy)]
+pub enum LogRefusal {
     TooLong,
     BadStart,
-    WrongRecord {
-        place: u64,
-    },
-    TooShort {
-        needed: u64,
-    },
+    WrongRecord { place: u64 },
+    TooShort { needed: u64 },
 }
+
+// What playing a log answers.
+pub type LogAnswer = Result<Played, LogRefusal>;
 
 // Whether a log's first two bytes are wrong: version 1 or 2, then a start byte from 0 to 3.
 fn bad_start(log: &[u8]) -> bool
@@ -43,14 +48,14 @@ fn bad_start(log: &[u8]) -> bool
     ((version != 1) & (version != 2)) | (3 < log[1])
 }
 
-// What good records are answered: 41 bytes for a frame, and those of reads.
-fn counted(meter: Meter, sums: Sums) -> LogAnswer
+// What playing good records does: 41 bytes for a frame, and those of reads.
+fn counted(meter: Meter, sums: Sums) -> Played
     requires held { Held K meter }
     requires small { Small sums }
-    ensures { result ≡ done_by meter sums }
+    ensures { result ≡ played_by meter sums }
 {
     let frames = frames_from(meter, sums.halves);
-    LogAnswer::Done {
+    Played {
         written: frames * FRAME_BYTES as u64 + sums.read_bytes,
         frames,
         clocks: sums.calls,
@@ -69,17 +74,17 @@ pub fn scan_from(log: &[u8], meter: Meter) -> LogAnswer
     let long = 65536 < log.len();
     let bad = bad_start(log);
     if long {
-        return LogAnswer::TooLong;
+        return Err(LogRefusal::TooLong);
     }
     if bad {
-        return LogAnswer::BadStart;
+        return Err(LogRefusal::BadStart);
     }
     let found = scan_list(version_of(log), log);
     match found.wrong {
-        None => counted(meter, found.sums),
-        Some(place) => LogAnswer::WrongRecord {
+        None => Ok(counted(meter, found.sums)),
+        Some(place) => Err(LogRefusal::WrongRecord {
             place: place as u64,
-        },
+        }),
     }
 }
 
@@ -89,104 +94,76 @@ pub fn within(answer: LogAnswer, room: usize) -> LogAnswer
     ensures result_value { (refusal_of result ≡ pick (is_done answer && ltb room (returned_of answer)) 6 (refusal_of answer))
         × (returned_of result ≡ returned_of answer) }
 {
-    match answer {
-        LogAnswer::Done {
-            written,
-            frames,
-            clocks,
-            records,
-        } => {
-            if (room as u64) < written {
-                return LogAnswer::TooShort { needed: written };
-            }
-            LogAnswer::Done {
-                written,
-                frames,
-                clocks,
-                records,
-            }
-        }
-        LogAnswer::TooLong => LogAnswer::TooLong,
-        LogAnswer::BadStart => LogAnswer::BadStart,
-        LogAnswer::WrongRecord { place } => LogAnswer::WrongRecord { place },
-        LogAnswer::TooShort { needed } => LogAnswer::TooShort { needed },
+    let played = answer?;
+    if (room as u64) < played.written {
+        return Err(LogRefusal::TooShort {
+            needed: played.written,
+        });
     }
+    Ok(played)
 }
 
 // Whether a log was played, and not refused.
 pub fn is_done(answer: LogAnswer) -> bool
     ensures { result ≡ is_done answer }
 {
-    match answer {
-        LogAnswer::Done {
-            written: _,
-            frames: _,
-            clocks: _,
-            records: _,
-        } => true,
-        LogAnswer::TooLong => false,
-        LogAnswer::BadStart => false,
-        LogAnswer::WrongRecord { place: _ } => false,
-        LogAnswer::TooShort { needed: _ } => false,
+    answer.is_ok()
+}
+
+impl Refusal for LogRefusal {
+    ghost number_of = { number_of };
+
+    ghost number_returned = { number_returned };
+
+    fn number(self) -> u64 {
+        match self {
+            LogRefusal::TooLong => 3,
+            LogRefusal::BadStart => 4,
+            LogRefusal::WrongRecord { .. } => 5,
+            LogRefusal::TooShort { .. } => 6,
+        }
     }
+
+    fn returned(self) -> u64 {
+        match self {
+            LogRefusal::TooLong | LogRefusal::BadStart => 0,
+            LogRefusal::WrongRecord { place } => place,
+            LogRefusal::TooShort { needed } => needed,
+        }
+    }
+
+    ghost in_table = { Prim.search rules };
 }
 
 // The refusal's number in the table, 0 for none.
-pub fn refusal(answer: LogAnswer) -> u64
-    ensures { result ≡ refusal_of answer }
+pub fn refusal<T: Copy, E: Refusal>(answer: Result<T, E>) -> u64
+    ensures { result ≡ refusal_in E.number_of answer }
 {
     match answer {
-        LogAnswer::Done {
-            written: _,
-            frames: _,
-            clocks: _,
-            records: _,
-        } => 0,
-        LogAnswer::TooLong => 3,
-        LogAnswer::BadStart => 4,
-        LogAnswer::WrongRecord { place: _ } => 5,
-        LogAnswer::TooShort { needed: _ } => 6,
+        Ok(_) => 0,
+        Err(refusal) => refusal.number(),
     }
 }
 
 // Bytes written, or the number that a refusal returns.
-pub fn returned(answer: LogAnswer) -> u64
-    ensures { result ≡ returned_of answer }
+pub fn returned<E: Refusal>(answer: Result<Played, E>) -> u64
+    ensures { result ≡ returned_in E.number_returned answer }
 {
     match answer {
-        LogAnswer::Done {
-            written,
-            frames: _,
-            clocks: _,
-            records: _,
-        } => written,
-        LogAnswer::TooLong => 0,
-        LogAnswer::BadStart => 0,
-        LogAnswer::WrongRecord { place } => place,
-        LogAnswer::TooShort { needed } => needed,
+        Ok(Played { written, .. }) => written,
+        Err(refusal) => refusal.returned(),
     }
 }
 
 // Frames, clock calls and records at the front of a lent slice that has room for them; a refusal puts nothing.
-pub fn put_counts(answer: LogAnswer, counts: &mut [u64])
+pub fn put_counts<E: Copy>(answer: Result<Played, E>, counts: &mut [u64])
     ensures { counts.new ≡ counts_after answer counts.old }
 {
-    match answer {
-        LogAnswer::Done {
-            written: _,
-            frames,
-            clocks,
-            records,
-        } => {
-            if 3 <= counts.len() {
-                counts[0] = frames;
-                counts[1] = clocks;
-                counts[2] = records;
-            }
+    if let Ok(played) = answer {
+        if 3 <= counts.len() {
+            counts[0] = played.frames;
+            counts[1] = played.clocks;
+            counts[2] = played.records;
         }
-        LogAnswer::TooLong => {}
-        LogAnswer::BadStart => {}
-        LogAnswer::WrongRecord { place: _ } => {}
-        LogAnswer::TooShort { needed: _ } => {}
     }
 }

@@ -7,7 +7,7 @@ ghost use Rattle.log_records.specs.Records.{records_from};
 ghost use Rattle.log_scan.specs.Scan.{Fits, added, both, one_record, sums_in, found_in, found_all};
 
 use clocks::sample_counter::half_clocks;
-use log_records::cut::{Cut, cut_at};
+use log_records::cut::{CutShort, cut_at};
 use log_records::judge::{Record, WrongRecord, clocks_at, judge};
 
 // Over some records: how many they are, the clock calls that they ask for, the half-clocks of those, and the bytes that reads make.
@@ -106,20 +106,19 @@ pub fn scan_list(version: u8, log: &[u8]) -> Found
     let mut found = Found::default();
     let mut at: usize = 2;
     loop {
-        let clocks = clocks_at(version, log, at);
-        if clocks.right {
+        if let Some(clocks) = clocks_at(version, log, at) {
             found.sums = add(found.sums, one_clock(clocks.double, clocks.count));
             at = clocks.end;
         } else {
             match cut_at(log, at) {
-                Cut::End => {
+                Ok(None) => {
                     return found;
                 }
-                Cut::Short => {
+                Err(CutShort) => {
                     found.wrong = found.wrong.or(Some(at));
                     return found;
                 }
-                Cut::Body { len } => {
+                Ok(Some(len)) => {
                     let from = at + 2;
                     let to = from + len;
                     let more = scan_record(version, &log[from..to], at);

@@ -7,12 +7,11 @@ use native.Mathlib.Nat.{not-suc-le-zero}
 use native.Mathlib.Omega.{arith}
 use borrow.Author.Tests.{le-leb}
 use lib.ListN.{length}
-use Rattle.std.specs.Prelude.{None, Ok, Err}
+use Rattle.std.specs.Prelude.{None, Ok, Err, Some}
 use Rattle.ground.specs.Pick.{pick}
 use Rattle.ground.specs.Num.{is_sound}
 use Rattle.log_records.specs.Judge.{Judged, write_of, read_of, clock_length, divider_in, clock_of, pcm_of, judge_of}
 use Rattle.log_records.specs.Records.{Parsed, done, item, cut_at, body_at, records_from, records_of, listed, unrolled}
-use Rattle.log_records.specs.declared.cut.Cut.TheVariants.{End, Body}
 use Rattle.log_records.specs.declared.divider.Divider.TheVariants.{Standing, Running}
 use Rattle.log_records.specs.declared.judge.Record.TheVariants.{Write, Read, Clock, Pcm}
 use Rattle.log_records.proofs.Framing.{at_end, at_body}
@@ -64,7 +63,7 @@ abbrev log_of_one : Judged → List ℕ
 log_of_one r = 2 ∷ 1 ∷ record_bytes r
 
 -- its body ends where the log does
-alone : (s : List ℕ) (n : ℕ) (r : Judged) → cut_at s 2 ≡ Body n → cut_at s (2 + 2 + n) ≡ End → judge_of 2 (body_at s 2 n) ≡ r
+alone : (s : List ℕ) (n : ℕ) (r : Judged) → cut_at s 2 ≡ Ok (Some n) → cut_at s (2 + 2 + n) ≡ Ok None → judge_of 2 (body_at s 2 n) ≡ r
     → records_from 2 s 2 ≡ item 2 r done
 alone s n r body end says = at_body 2 s 2 n body ∙ ap₂ (λ (x : Judged) (p : Parsed). item 2 x p) says (at_end 2 s (2 + 2 + n) end)
 

@@ -5,7 +5,7 @@ use mathlib.Core.Bool.{Bool, true, false}
 use mathlib.Core.List.{List}
 use native.Mathlib.Omega.{arith}
 use native.Mathlib.Nat.{add-zero, add_assoc}
-use borrow.Author.Tests.{ltb-true, ltb-false, le-ltb}
+use borrow.Author.Tests.{ltb-true, ltb-false}
 use lib.ListN.{length, length-append}
 use lib.Dec.{ltb}
 use Rattle.std.specs.Prelude.{Ok, Err}
@@ -21,36 +21,8 @@ use Rattle.log_vgm.specs.Log.{bytes_by, bytes_on}
 use Rattle.log_vgm.specs.Imports.{Imported, capped, scanned_on, or_stopped, fitted}
 
 -- ---- the cap
-pub capped_low : (most n : ℕ) → n ≤ most → capped most n ≡ n
-unfolding capped pick
-capped_low most n h = rw (le-ltb most n h)
-
-capped_high : (most n : ℕ) → most ≤ n → capped most n ≡ most
-unfolding capped pick
-capped_high most n h = go (ltb most n) refl
-  where
-    go : (b : Bool) → ltb most n ≡ b → pick b most n ≡ most
-    go true e = refl
-    go false e = omega (arith, ltb-false most n e)
-
-pub capped_min : (most n : ℕ) → capped most n ≡ min n most
-unfolding capped pick
-capped_min most n = go (ltb most n) refl
-  where
-    go : (b : Bool) → ltb most n ≡ b → pick b most n ≡ min n most
-    go true e = let h : most < n = ltb-true most n e in omega arith
-    go false e = let h : n ≤ most = ltb-false most n e in omega arith
-
 capped_again : (most n x : ℕ) → capped most (capped most n + x) ≡ capped most (n + x)
-capped_again most n x = go (ltb most n) refl
-  where
-    go : (b : Bool) → ltb most n ≡ b → capped most (capped most n + x) ≡ capped most (n + x)
-    go true e =
-        let h : most < n = ltb-true most n e in
-        ap (λ (m : ℕ). capped most (m + x)) (capped_high most n (omega arith))
-        ∙ capped_high most (most + x) (omega arith)
-        ∙ sym (capped_high most (n + x) (omega arith))
-    go false e = ap (λ (m : ℕ). capped most (m + x)) (capped_low most n (ltb-false most n e))
+capped_again most n x = omega arith
 
 scan_capped : (n : ℕ) (c : Clockwork) (t : Track) → scanned_on (capped 65537 n) c t ≡ scanned_on n c t
 scan_capped n c ended = ap (λ (b : ℕ). Ok b) (rw (add-zero (capped 65537 n), add-zero n) at (capped_again 65537 n 0))
@@ -78,7 +50,7 @@ module _ {s : List ℕ} {from : Walk} {opening : ℕ} {walk : Walk} {bytes : ℕ
       record {
         few = omega arith;
         same =
-            rw (w, b ∙ sym (capped_min 65537 (bytes + x)))
+            rw (w, b)
             (scan_capped (bytes + x) on (commands_from s (walk.at + 1 + taken.more))
             ∙ sym (ap (scanned_on bytes walk.clockwork) e)
             ∙ inv.same);
@@ -86,7 +58,9 @@ module _ {s : List ℕ} {from : Walk} {opening : ℕ} {walk : Walk} {bytes : ℕ
 
   pub scan_ended : commands_from s walk.at ≡ ended → Ok bytes ≡ scanned_on opening from.clockwork (commands_from s from.at)
   scan_ended e =
-      ap (λ (b : ℕ). Ok b) (sym (capped_low 65537 bytes inv.few)) ∙ sym (ap (scanned_on bytes walk.clockwork) e) ∙ inv.same
+      let few = inv.few in
+      let below : bytes ≡ capped 65537 bytes = omega arith in
+      ap (λ (b : ℕ). Ok b) below ∙ sym (ap (scanned_on bytes walk.clockwork) e) ∙ inv.same
 
   pub scan_stopped : commands_from s walk.at ≡ stopped walk.at
       → Err (BadCommand walk.at) ≡ scanned_on opening from.clockwork (commands_from s from.at)
@@ -121,5 +95,11 @@ unfolding fitted pick
 fitted_capped room n = go (ltb 65536 n) refl
   where
     go : (b : Bool) → ltb 65536 n ≡ b → fitted room (capped 65537 n) ≡ fitted room n
-    go true e = let h : 65536 < n = ltb-true 65536 n e in rw (capped_high 65537 n (omega arith), e)
-    go false e = let h : n ≤ 65536 = ltb-false 65536 n e in ap (fitted room) (capped_low 65537 n (omega arith))
+    go true e =
+        let h : 65536 < n = ltb-true 65536 n e in
+        let most : capped 65537 n ≡ 65537 = omega arith in
+        rw (most, e)
+    go false e =
+        let h : n ≤ 65536 = ltb-false 65536 n e in
+        let same : capped 65537 n ≡ n = omega arith in
+        ap (fitted room) same

@@ -1,5 +1,5 @@
 -- What the import of a VGM file is answered, from request 2026-05: refusals 9, 10, 11 and 6. Assumes nothing.
-use Rattle.std.specs.Prelude.{ℕ, ◌+◌, ◌-◌, ◌*◌, ◌^◌, Bool, true, false, List, ◌++◌, length, drop, ltb, Result, Ok, Err}
+use Rattle.std.specs.Prelude.{ℕ, ◌+◌, ◌-◌, ◌*◌, ◌^◌, min, Bool, true, false, List, ◌++◌, length, drop, ltb, Result, Ok, Err}
 use Rattle.ground.specs.Pick.{pick}
 use Rattle.log_vgm.specs.declared.clockwork.Clockwork.{Clockwork}
 use Rattle.log_vgm.specs.declared.refusal.ImportRefusal.{ImportRefusal}
@@ -44,8 +44,8 @@ returned_of (Err TooLong) = 0
 returned_of (Err (TooShort needed)) = needed
 
 -- a number, or the most where it is above that
-unfoldable pub capped : ℕ → ℕ → ℕ
-capped most n = pick (ltb most n) most n
+abbrev pub capped : ℕ → ℕ → ℕ
+capped most n = min n most
 
 -- "result refusal × 2^48 + bytes written or number returned", which has 48 bits: a place above them, which no file has, is told as the greatest
 abbrev pub packed : Imported → ℕ

@@ -1,6 +1,7 @@
 // A case of the input, by its head of 24 bytes: kind, refusal, the log's length in two bytes, then in four each the number returned, the output's length,
 // frames, clock calls and records.
-use log_scan::answer::{LogAnswer, refusal, returned};
+use log_scan::answer::{LogAnswer, Played};
+use log_scan::refusal::Refusal;
 
 // What is done with a case's log: it names the family that follows, is played, or is a VGM file to import.
 #[derive(Clone, Copy, PartialEq, Eq)]
@@ -70,25 +71,20 @@ impl Case {
     }
 }
 
-// Whether a log that is played has the frames, clock calls and records of the case; a refusal has none.
-fn counts_are(case: Case, answer: LogAnswer) -> bool {
-    match answer {
-        LogAnswer::Done {
-            written: _,
-            frames,
-            clocks,
-            records,
-        } => (frames == case.frames) & (clocks == case.clocks) & (records == case.records),
-        LogAnswer::TooLong => true,
-        LogAnswer::BadStart => true,
-        LogAnswer::WrongRecord { place: _ } => true,
-        LogAnswer::TooShort { needed: _ } => true,
-    }
+// Whether a log that is played has the frames, clock calls and records of the case.
+fn counts_are(case: Case, played: Played) -> bool {
+    (played.frames == case.frames)
+        & (played.clocks == case.clocks)
+        & (played.records == case.records)
 }
 
 // Whether an answer is the one of the case.
 pub fn answer_is(case: Case, answer: LogAnswer) -> bool {
-    let refused = refusal(answer) == case.refused as u64;
-    let number = returned(answer) == case.number;
-    refused & number & counts_are(case, answer)
+    let refused = case.refused as u64;
+    match answer {
+        Ok(played) => {
+            (refused == 0) & (played.written == case.number) & counts_are(case, played)
+        }
+        Err(refusal) => (refused == refusal.number()) & (case.number == refusal.returned()),
+    }
 }

@@ -15,7 +15,7 @@ use compare::{digest, fill, untouched};
 use expected::{Case, Kind, answer_is};
 use imported::import_is;
 use log_player::log::play_log;
-use log_scan::answer::LogAnswer;
+use log_scan::answer::{LogAnswer, LogRefusal};
 use plain::play_plainly;
 use std::io::Read;
 use tally::Tally;
@@ -55,7 +55,7 @@ fn output_is(case: Case, want: &[u8], out: &[u8]) -> bool {
 fn answer_of(log: &[u8], room: usize, out: &mut [u8]) -> LogAnswer {
     match out.get_mut(..room) {
         Some(out) => play_log(log, out),
-        None => LogAnswer::TooLong,
+        None => Err(LogRefusal::TooLong),
     }
 }
 

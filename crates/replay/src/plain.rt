@@ -3,13 +3,12 @@ ghost use Rattle.std.specs.Prelude.{IfSome};
 ghost use Rattle.apu.specs.Held.{Held};
 
 use apu::Apu;
-use apu::registers::Read;
-use apu_clock::clock::{Answer, clock};
+use apu_clock::clock::clock;
 use frame::pattern::pattern;
 use log_items::items::{FRAME, PCM, READ};
 use log_player::log::start_byte;
 use log_player::play::start;
-use log_records::cut::{Cut, cut_at, version_of};
+use log_records::cut::{cut_at, version_of};
 use log_records::divider::{Divider, divider_at};
 use log_records::judge::{Record, judge};
 use std::io::{self, Cursor, Write};
@@ -47,11 +46,8 @@ fn play_call(unit: Apu, double: bool, divider: u8, out: &mut impl Write) -> Opti
         &mut noise,
         &mut all,
     );
-    let answer = clocked.answer;
-    match answer {
-        Answer::Nothing => {}
-        Answer::Frame => write_frame(out, [pulse1, pulse2, wave, noise, all]).ok()?,
-        Answer::NoRoom => return None,
+    if clocked.answer.ok()? {
+        write_frame(out, [pulse1, pulse2, wave, noise, all]).ok()?;
     }
     Some(clocked.apu)
 }
@@ -74,13 +70,6 @@ fn play_calls(
     Some(next)
 }
 
-fn write_read(out: &mut impl Write, answer: Read) -> Option<()> {
-    match answer {
-        Read::Byte(byte) => out.write_all(&[READ, byte]).ok(),
-        Read::WrongAddress => None,
-    }
-}
-
 // A record's body, in a log of a version.
 fn play_record(unit: Apu, version: u8, body: &[u8], out: &mut impl Write) -> Option<Apu>
     requires { Held unit }
@@ -92,7 +81,8 @@ fn play_record(unit: Apu, version: u8, body: &[u8], out: &mut impl Write) -> Opt
             Some(written.apu)
         }
         Record::Read { addr } => {
-            write_read(out, unit.read_register(addr))?;
+            let byte = unit.read_register(addr).ok()?;
+            out.write_all(&[READ, byte]).ok()?;
             Some(unit)
         }
         Record::Clock {
@@ -115,18 +105,13 @@ fn play_records(unit: Apu, version: u8, log: &[u8], out: &mut impl Write) -> Opt
 {
     let mut next = unit;
     let mut at: usize = 2;
-    loop {
-        match cut_at(log, at) {
-            Cut::End => return Some(()),
-            Cut::Short => return None,
-            Cut::Body { len } => {
-                let from = at + 2;
-                let to = from + len;
-                next = play_record(next, version, &log[from..to], out)?;
-                at = to;
-            }
-        }
+    while let Some(len) = cut_at(log, at).ok()? {
+        let from = at + 2;
+        let to = from + len;
+        next = play_record(next, version, &log[from..to], out)?;
+        at = to;
     }
+    Some(())
 }
 
 // Plays a log that is not refused, and hands back how many bytes it makes.

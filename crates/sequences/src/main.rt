@@ -8,10 +8,10 @@ mod text;
 ghost use Rattle.apu.specs.Held.{Held};
 
 use apu::Apu;
-use apu::registers::{Read, Write};
-use apu_clock::clock::{Answer, clock};
+use apu::registers::WrongAddress;
+use apu_clock::clock::{NoRoom, clock};
 use command::Command;
-use std::io::Read as _;
+use std::io::Read;
 use text::{Frame, print_line};
 
 // The most commands that are taken: those in 65,536 bytes.
@@ -34,14 +34,12 @@ fn show_clock(rt: &impl Print, unit: Apu, double: bool, divider: u8) -> Apu
         &mut frame.noise,
         &mut frame.all,
     );
-    let answer = clocked.answer;
-    let next = clocked.apu;
-    match answer {
-        Answer::Nothing => {}
-        Answer::Frame => print_line(rt, frame),
-        Answer::NoRoom => print_line(rt, "X"),
+    match clocked.answer {
+        Ok(true) => print_line(rt, frame),
+        Ok(false) => {}
+        Err(NoRoom) => print_line(rt, "X"),
     }
-    next
+    clocked.apu
 }
 
 // So many clock calls with one divider.
@@ -74,19 +72,16 @@ fn show_write(rt: &impl Print, unit: Apu, addr: u16, value: u8) -> Apu
     ensures { Held result }
 {
     let written = unit.write_register(addr, value);
-    let answer = written.answer;
-    let next = written.apu;
-    match answer {
-        Write::Done => {}
-        Write::WrongAddress => print_line(rt, "X"),
+    if let Err(WrongAddress) = written.answer {
+        print_line(rt, "X");
     }
-    next
+    written.apu
 }
 
 fn show_read(rt: &impl Print, unit: Apu, addr: u16) {
     match unit.read_register(addr) {
-        Read::Byte(byte) => print_line(rt, format_args!("R {addr:04X} {byte:02X}")),
-        Read::WrongAddress => print_line(rt, "X"),
+        Ok(byte) => print_line(rt, format_args!("R {addr:04X} {byte:02X}")),
+        Err(WrongAddress) => print_line(rt, "X"),
     }
 }
 

@@ -7,7 +7,7 @@ use mathlib.Core.Path.{refl, sym, ◌∙◌}
 use native.Mathlib.Omega.{arith}
 use Rattle.apu.proofs.Given.{write_given}
 use Rattle.apu.specs.declared.registers.Written.{Written}
-use Rattle.apu.specs.declared.registers.Write.TheVariants.{Done, WrongAddress}
+use Rattle.std.specs.Prelude.{Ok, Err}
 use Rattle.apu.proofs.Apu.write_register.Goals as goal
 
 pub overflow_sub-addr : goal.overflow_sub-addr
@@ -20,7 +20,7 @@ unfolding pick write_of
 returns-then-is_sound c =
     let a = c.args in
     let sound = sym c.is_sound.ensures ∙ c.if-is_sound.true in
-    let w : Written = record { answer = Done; apu = c.write_at-next.result } in
+    let w : Written = record { answer = Ok tt; apu = c.write_at-next.result } in
     record {
       value = (rw (c.write_at-next.ensures, sound), rw sound, refl);
       held = write_given a.self a.addr a.value w (omega arith) c.requires (rw (c.write_at-next.ensures, sound));
@@ -31,5 +31,5 @@ unfolding pick write_of
 returns-else-is_sound c =
     let a = c.args in
     let sound = sym c.is_sound.ensures ∙ c.if-is_sound.false in
-    let w : Written = record { answer = WrongAddress; apu = a.self } in
+    let w : Written = record { answer = Err (record {}); apu = a.self } in
     record { value = (rw sound, rw sound, refl); held = write_given a.self a.addr a.value w (omega arith) c.requires (rw sound) }

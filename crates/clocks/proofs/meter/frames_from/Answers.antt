@@ -1,42 +1,39 @@
--- The half-clocks passed and those left are all of them, and at every turn meter and frames are those of the half-clocks passed. Assumes nothing.
+-- After `counter` turns meter and frames are those of as many times 16,384 half-clocks; the last call adds what is left of them all. Assumes nothing.
+use mathlib.Core.Path.{◌≡◌, ap, ◌∙◌}
+use Prim.Native.Nat.{◌+◌, ◌*◌, ◌/◌, ◌%◌}
 use native.Mathlib.Omega.{arith}
-use Rattle.clocks.proofs.Totals.{begun, held, turn, few, ended}
+use Rattle.clocks.specs.Calls.{K}
+use Rattle.clocks.specs.Metered.{frames_from}
+use Rattle.clocks.proofs.Totals.{begun, held, turn, few}
 use Rattle.clocks.proofs.meter.frames_from.Goals as goal
 
-pub loop-left-init : goal.loop-left-init
-loop-left-init c = begun _ _ c.requires
+pub loop-init : goal.loop-init
+loop-init c = begun _ c.requires
 
-pub calls-metered-requires : goal.calls-metered-requires
-calls-metered-requires c =
-    let loop = c.loop-left in
-    record { held = held loop.invariant; count_bound = omega (arith, c.min-some.ensures) }
+pub calls-metered-requires-clause-held : goal.calls-metered-requires-clause-held
+calls-metered-requires-clause-held c = held c.loop.invariant
 
 pub overflow_add-frames : goal.overflow_add-frames
 overflow_add-frames c =
     let calls = c.calls-metered in
-    let some = c.min-some in
-    let loop = c.loop-left in
-    let made = few loop.invariant some.result (omega (arith, some.ensures)) calls.result calls.ensures in
+    let made = few c.loop.invariant 16384 calls.result calls.ensures in
     omega (arith, made, c.ranges.halves)
 
-pub overflow_sub-left : goal.overflow_sub-left
-overflow_sub-left c =
-    let some = c.min-some in
-    omega (arith, some.ensures)
+pub loop-preserved : goal.loop-preserved
+loop-preserved c =
+    let counted : (c.loop.counter + 1) * 16384 ≡ c.loop.counter * 16384 + 16384 = omega arith in
+    rw (counted, c.calls-metered.ensures) (turn c.loop.invariant 16384)
 
-pub loop-left-smaller : goal.loop-left-smaller
-loop-left-smaller c =
-    let some = c.min-some in
-    omega (arith, some.ensures)
+pub calls-requires-clause-held : goal.calls-requires-clause-held
+calls-requires-clause-held c = held c.loop.invariant
 
-pub loop-left-preserved : goal.loop-left-preserved
-loop-left-preserved c =
-    let calls = c.calls-metered in
-    let some = c.min-some in
-    let loop = c.loop-left in
-    rw calls.ensures (turn loop.invariant _ (omega (arith, some.ensures)))
+pub overflow_add-result : goal.overflow_add-result
+overflow_add-result c =
+    let made = few c.loop.invariant (c.args.halves % 16384) c.calls.result c.calls.ensures in
+    omega (arith, made, c.ranges.halves)
 
 pub returns : goal.returns
 returns c =
-    let loop = c.loop-left in
-    ended loop.invariant (omega arith)
+    let halves = c.args.halves in
+    let whole : c.loop.counter * 16384 + halves % 16384 ≡ halves = omega arith in
+    rw c.calls.ensures ((turn c.loop.invariant (halves % 16384)).frames ∙ ap (frames_from 48 K c.args.meter) whole)

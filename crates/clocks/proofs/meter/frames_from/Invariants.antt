@@ -1,9 +1,7 @@
--- The half-clocks passed and those left are all of them, and at every turn meter and frames are those of the half-clocks passed. Assumes nothing.
+-- After `counter` turns meter and frames are those of as many times 16,384 half-clocks. Assumes nothing.
+use Prim.Native.Nat.{◌*◌}
 use Rattle.clocks.proofs.Totals.{Going}
 use Rattle.clocks.proofs.meter.frames_from.Given as goal
 
-abbrev pub invariant-loop-left : goal.invariant-loop-left
-invariant-loop-left l = Going l.initial.at l.halves l.left l.at l.frames
-
-abbrev pub decreases-loop-left : goal.decreases-loop-left
-decreases-loop-left l = l.left
+abbrev pub invariant-loop : goal.invariant-loop
+invariant-loop l = Going l.fn.meter (l.counter * 16384) l.at l.frames

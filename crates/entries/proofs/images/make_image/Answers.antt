@@ -10,11 +10,11 @@ packed-requires c =
     let packs = made_packs args.start (length args.image.now) in
     let few = made_refusal c.fresh_image-made.result in
     record {
-      refusal_bound = rw c.refusal_of_made.ensures (omega (arith, few));
+      refusal_bound = rw c.refusal.ensures (omega (arith, few));
       number_bound = rw (c.returned_of_made.ensures, c.fresh_image-made.ensures.value) packs;
     }
 
 pub returns : goal.returns
 returns c =
     let is = c.fresh_image-made.ensures.value in
-    record { value = rw (c.packed.ensures, c.returned_of_made.ensures, c.refusal_of_made.ensures, is); image_after = c.fresh_image-made.ensures.out_after }
+    record { value = rw (c.packed.ensures, c.returned_of_made.ensures, c.refusal.ensures, is); image_after = c.fresh_image-made.ensures.out_after }

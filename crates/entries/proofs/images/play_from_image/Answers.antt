@@ -3,8 +3,8 @@ use lib.ListN.{length}
 use Rattle.image_player.proofs.Answering.{from_packs}
 use Rattle.entries.proofs.images.play_from_image.Goals as goal
 
-pub pack_kept-requires : goal.pack_kept-requires
-pack_kept-requires c =
+pub pack-requires : goal.pack-requires
+pack-requires c =
     let args = c.args in
     let packs = from_packs args.image.now args.log.now (length args.out.now) (length args.after.now) in
     rw c.play_image.ensures.value packs
@@ -12,7 +12,7 @@ pack_kept-requires c =
 pub returns : goal.returns
 returns c =
     record {
-      value = rw (c.pack_kept.ensures, c.play_image.ensures.value);
+      value = rw (c.pack.ensures, c.play_image.ensures.value);
       out_after = c.play_image.ensures.out_after;
       after_after = c.play_image.ensures.after_after;
     }

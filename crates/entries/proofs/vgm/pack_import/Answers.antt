@@ -5,10 +5,8 @@ use Rattle.entries.proofs.vgm.pack_import.Goals as goal
 
 pub packed-requires : goal.packed-requires
 packed-requires c =
-    let refusal = c.refusal in
-    let args = c.args in
-    let few = refusal_le args.answer in
-    record { refusal_bound = rw refusal.ensures (omega (arith, few)); number_bound = c.in_48_bits.ensures.1 }
+    let few = refusal_le c.args.answer in
+    record { refusal_bound = rw c.refusal.ensures (omega (arith, few)); number_bound = rw c.min.ensures (omega arith) }
 
 pub returns : goal.returns
-returns c = rw (c.packed.ensures, c.refusal.ensures, c.in_48_bits.ensures.0, c.returned.ensures)
+returns c = rw (c.packed.ensures, c.refusal.ensures, c.min.ensures, c.returned.ensures)

@@ -7,9 +7,8 @@ use Rattle.log_player.proofs.body.group_at.Goals as goal
 pub returns-then-addr-lt65297 : goal.returns-then-addr-lt65297
 unfolding group_at pick
 returns-then-addr-lt65297 c =
-    let no_write = c.no_write in
     let if1 = c.if-addr-lt65297 in
-    rw (lt-ltb _ _ if1.true) no_write.ensures
+    rw (lt-ltb _ _ if1.true)
 
 pub returns-then-addr-lt65301 : goal.returns-then-addr-lt65301
 unfolding group_at pick
@@ -48,11 +47,9 @@ returns-then-addr-lt65316 c =
 pub returns : goal.returns
 unfolding group_at pick
 returns c =
-    let no-write2 = c.no_write-2 in
     let if5 = c.if-addr-lt65316 in
     let if4 = c.if-addr-lt65311 in
     let if3 = c.if-addr-lt65306 in
     let if2 = c.if-addr-lt65301 in
     let if1 = c.if-addr-lt65297 in
     rw (le-ltb _ _ if1.false, le-ltb _ _ if2.false, le-ltb _ _ if3.false, le-ltb _ _ if4.false, le-ltb _ _ if5.false)
-    no-write2.ensures

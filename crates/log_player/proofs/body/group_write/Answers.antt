@@ -8,9 +8,8 @@ use Rattle.log_player.proofs.body.group_write.Goals as goal
 pub returns-then-body-ne4 : goal.returns-then-body-ne4
 unfolding group_write_in
 returns-then-body-ne4 c =
-    let no_write = c.no_write in
     let if1 = c.if-body-ne4 in
-    no_write.ensures ∙ sym (pick_false _ _ _ (ne_eqb _ 4 if1.true))
+    sym (pick_false _ _ _ (ne_eqb _ 4 if1.true))
 
 pub returns-then-power-body : goal.returns-then-power-body
 unfolding group_write_in
@@ -24,7 +23,6 @@ returns-then-power-body c =
 pub returns : goal.returns
 unfolding group_write_in
 returns c =
-    let no-write2 = c.no_write-2 in
     let if2 = c.if-power-body in
     let if1 = c.if-body-ne4 in
-    no-write2.ensures ∙ sym (pick_true _ _ _ (eq-eqb _ 4 if1.false) ∙ pick_false _ _ _ if2.false)
+    sym (pick_true _ _ _ (eq-eqb _ 4 if1.false) ∙ pick_false _ _ _ if2.false)

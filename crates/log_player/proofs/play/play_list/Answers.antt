@@ -202,52 +202,42 @@ loop-apu-preserved-else-r c =
     paid_on loop.invariant k unit (ap (λ (x : Parts). x.at) ran.is) ran.bytes
 
 -- ---- a record
-pub shape_of-out-then-not-part : goal.shape_of-out-then-not-part
-shape_of-out-then-not-part c =
+pub shape_of-out-in_default : goal.shape_of-out-in_default
+shape_of-out-in_default c =
     let loop = c.loop-apu in
     loop.invariant.going.same
 
-pub returns-then-not-part : goal.returns-then-not-part
-returns-then-not-part c =
-    let if5 = c.if-not-part in
-    let part_at = c.part_at-part in
+pub returns-in_default : goal.returns-in_default
+returns-in_default c =
     let if2 = c.if-r-ne0 in
     let reckon = c.reckon-r in
     let loop = c.loop-apu in
     let z = if2.false in
-    let both = over loop.invariant reckon.ensures.reckons z (reckon.ensures.idle z) (part_none _ _ _ part_at.ensures if5.true) in
+    let both = over loop.invariant reckon.ensures.reckons z (reckon.ensures.idle z) (part_none _ _ _ c.part_at.ensures c.in_default.not-Some) in
     record { value = both.0; out_after = both.1.0; still_held = both.1.1 }
 
 pub overflow_add-from : goal.overflow_add-from
 overflow_add-from c =
-    let if5 = c.if-not-part in
-    let part_at = c.part_at-part in
     let reckon = c.reckon-r in
-    let lies = part_some c.args.version c.args.log.now reckon.result.at part_at.ensures if5.false in
+    let lies = part_some c.args.version c.args.log.now reckon.result.at (sym c.in-Some.ensures) in
     omega (arith, lies.from, lies.fits, c.well_formed)
 
 pub slice_bounds-body-count : goal.slice_bounds-body-count
 slice_bounds-body-count c =
-    let if5 = c.if-not-part in
-    let part_at = c.part_at-part in
     let reckon = c.reckon-r in
-    let lies = part_some c.args.version c.args.log.now reckon.result.at part_at.ensures if5.false in
+    let lies = part_some c.args.version c.args.log.now reckon.result.at (sym c.in-Some.ensures) in
     omega (arith, lies.from, lies.fits, c.well_formed)
 
 pub slice_bounds-body-start : goal.slice_bounds-body-start
 slice_bounds-body-start c =
-    let if5 = c.if-not-part in
-    let part_at = c.part_at-part in
     let reckon = c.reckon-r in
-    let lies = part_some c.args.version c.args.log.now reckon.result.at part_at.ensures if5.false in
+    let lies = part_some c.args.version c.args.log.now reckon.result.at (sym c.in-Some.ensures) in
     omega (arith, lies.from, lies.fits, c.well_formed)
 
 pub slice_bounds-body-end : goal.slice_bounds-body-end
 slice_bounds-body-end c =
-    let if5 = c.if-not-part in
-    let part_at = c.part_at-part in
     let reckon = c.reckon-r in
-    let lies = part_some c.args.version c.args.log.now reckon.result.at part_at.ensures if5.false in
+    let lies = part_some c.args.version c.args.log.now reckon.result.at (sym c.in-Some.ensures) in
     omega (arith, lies.from, lies.fits, c.well_formed)
 
 pub next_position-requires-else-r-ne0 : goal.next_position-requires-else-r-ne0
@@ -261,149 +251,127 @@ write-apu-requires c =
     let loop = c.loop-apu in
     loop.invariant.going.ready.held.pulse1
 
-pub loop-apu-smaller-in-1 : goal.loop-apu-smaller-in-1
-loop-apu-smaller-in-1 c =
-    let if5 = c.if-not-part in
-    let part_at = c.part_at-part in
+pub loop-apu-smaller-in-Pulse1 : goal.loop-apu-smaller-in-Pulse1
+loop-apu-smaller-in-Pulse1 c =
     let if2 = c.if-r-ne0 in
     let reckon = c.reckon-r in
-    let lies = part_some c.args.version c.args.log.now reckon.result.at part_at.ensures if5.false in
+    let lies = part_some c.args.version c.args.log.now reckon.result.at (sym c.in-Some.ensures) in
     let idle = reckon.ensures.idle if2.false in
     omega (arith, ahead_next lies idle.0, reckon.ensures.reckons.less)
 
-pub loop-apu-preserved-in-1 : goal.loop-apu-preserved-in-1
-loop-apu-preserved-in-1 c =
+pub loop-apu-preserved-in-Pulse1 : goal.loop-apu-preserved-in-Pulse1
+loop-apu-preserved-in-Pulse1 c =
     let write = c.write-apu in
     let next-position2 = c.next_position-else-r-ne0 in
-    let group-write = c.group_write-write in
-    let if5 = c.if-not-part in
-    let part_at = c.part_at-part in
     let if2 = c.if-r-ne0 in
     let reckon = c.reckon-r in
     let loop = c.loop-apu in
-    let lies = part_some c.args.version c.args.log.now reckon.result.at part_at.ensures if5.false in
+    let lies = part_some c.args.version c.args.log.now reckon.result.at (sym c.in-Some.ensures) in
     let k = reckon.ensures.reckons in
     let z = if2.false in
-    let w = group-write.result in
+    let w = c.in-Some-group_write.write in
     let b = marked loop.apu reckon.result.half reckon.result.stored in
     let next = next_read loop.apu.sequencer_position _ loop.invariant.going.ready.held.position next-position2.ensures in
-    let put = pulse1_put w b next c.in-1.is write.ensures in
-    let said = group-write.ensures ∙ group-written _ _ _ in
-    item_written loop.invariant k z (reckon.ensures.idle z) lies said (λ e. omega (arith, e, c.in-1.is)) (omega (arith, group-write.type_inv)) put
+    let put = pulse1_put w b next c.in-Pulse1.is write.ensures in
+    let said = c.in-Some-group_write.ensures ∙ group-written _ _ _ in
+    item_written loop.invariant k z (reckon.ensures.idle z) lies said (omega arith) put
 
-pub write-apu-requires-in-2 : goal.write-apu-requires-in-2
-write-apu-requires-in-2 c =
+pub write-apu-requires-in-Pulse2 : goal.write-apu-requires-in-Pulse2
+write-apu-requires-in-Pulse2 c =
     let loop = c.loop-apu in
     loop.invariant.going.ready.held.pulse2
 
-pub loop-apu-smaller-in-2 : goal.loop-apu-smaller-in-2
-loop-apu-smaller-in-2 c =
-    let if5 = c.if-not-part in
-    let part_at = c.part_at-part in
+pub loop-apu-smaller-in-Pulse2 : goal.loop-apu-smaller-in-Pulse2
+loop-apu-smaller-in-Pulse2 c =
     let if2 = c.if-r-ne0 in
     let reckon = c.reckon-r in
-    let lies = part_some c.args.version c.args.log.now reckon.result.at part_at.ensures if5.false in
+    let lies = part_some c.args.version c.args.log.now reckon.result.at (sym c.in-Some.ensures) in
     let idle = reckon.ensures.idle if2.false in
     omega (arith, ahead_next lies idle.0, reckon.ensures.reckons.less)
 
-pub loop-apu-preserved-in-2 : goal.loop-apu-preserved-in-2
-loop-apu-preserved-in-2 c =
-    let write2 = c.write-apu-in-2 in
+pub loop-apu-preserved-in-Pulse2 : goal.loop-apu-preserved-in-Pulse2
+loop-apu-preserved-in-Pulse2 c =
+    let write2 = c.write-apu-in-Pulse2 in
     let next-position2 = c.next_position-else-r-ne0 in
-    let group-write = c.group_write-write in
-    let if5 = c.if-not-part in
-    let part_at = c.part_at-part in
     let if2 = c.if-r-ne0 in
     let reckon = c.reckon-r in
     let loop = c.loop-apu in
-    let lies = part_some c.args.version c.args.log.now reckon.result.at part_at.ensures if5.false in
+    let lies = part_some c.args.version c.args.log.now reckon.result.at (sym c.in-Some.ensures) in
     let k = reckon.ensures.reckons in
     let z = if2.false in
-    let w = group-write.result in
+    let w = c.in-Some-group_write.write in
     let b = marked loop.apu reckon.result.half reckon.result.stored in
     let next = next_read loop.apu.sequencer_position _ loop.invariant.going.ready.held.position next-position2.ensures in
-    let put = pulse2_put w b next c.in-2.is write2.ensures in
-    let said = group-write.ensures ∙ group-written _ _ _ in
-    item_written loop.invariant k z (reckon.ensures.idle z) lies said (λ e. omega (arith, e, c.in-2.is)) (omega (arith, group-write.type_inv)) put
+    let put = pulse2_put w b next c.in-Pulse2.is write2.ensures in
+    let said = c.in-Some-group_write.ensures ∙ group-written _ _ _ in
+    item_written loop.invariant k z (reckon.ensures.idle z) lies said (omega arith) put
 
-pub write-apu-requires-in-3 : goal.write-apu-requires-in-3
-write-apu-requires-in-3 c =
+pub write-apu-requires-in-Wave : goal.write-apu-requires-in-Wave
+write-apu-requires-in-Wave c =
     let loop = c.loop-apu in
     loop.invariant.going.ready.held.wave
 
-pub loop-apu-smaller-in-3 : goal.loop-apu-smaller-in-3
-loop-apu-smaller-in-3 c =
-    let if5 = c.if-not-part in
-    let part_at = c.part_at-part in
+pub loop-apu-smaller-in-Wave : goal.loop-apu-smaller-in-Wave
+loop-apu-smaller-in-Wave c =
     let if2 = c.if-r-ne0 in
     let reckon = c.reckon-r in
-    let lies = part_some c.args.version c.args.log.now reckon.result.at part_at.ensures if5.false in
+    let lies = part_some c.args.version c.args.log.now reckon.result.at (sym c.in-Some.ensures) in
     let idle = reckon.ensures.idle if2.false in
     omega (arith, ahead_next lies idle.0, reckon.ensures.reckons.less)
 
-pub loop-apu-preserved-in-3 : goal.loop-apu-preserved-in-3
-loop-apu-preserved-in-3 c =
-    let write3 = c.write-apu-in-3 in
+pub loop-apu-preserved-in-Wave : goal.loop-apu-preserved-in-Wave
+loop-apu-preserved-in-Wave c =
+    let write3 = c.write-apu-in-Wave in
     let next-position2 = c.next_position-else-r-ne0 in
-    let group-write = c.group_write-write in
-    let if5 = c.if-not-part in
-    let part_at = c.part_at-part in
     let if2 = c.if-r-ne0 in
     let reckon = c.reckon-r in
     let loop = c.loop-apu in
-    let lies = part_some c.args.version c.args.log.now reckon.result.at part_at.ensures if5.false in
+    let lies = part_some c.args.version c.args.log.now reckon.result.at (sym c.in-Some.ensures) in
     let k = reckon.ensures.reckons in
     let z = if2.false in
-    let w = group-write.result in
+    let w = c.in-Some-group_write.write in
     let b = marked loop.apu reckon.result.half reckon.result.stored in
     let next = next_read loop.apu.sequencer_position _ loop.invariant.going.ready.held.position next-position2.ensures in
-    let put = wave_put w b next c.in-3.is write3.ensures in
-    let said = group-write.ensures ∙ group-written _ _ _ in
-    item_written loop.invariant k z (reckon.ensures.idle z) lies said (λ e. omega (arith, e, c.in-3.is)) (omega (arith, group-write.type_inv)) put
+    let put = wave_put w b next c.in-Wave.is write3.ensures in
+    let said = c.in-Some-group_write.ensures ∙ group-written _ _ _ in
+    item_written loop.invariant k z (reckon.ensures.idle z) lies said (omega arith) put
 
-pub write-apu-requires-in-4 : goal.write-apu-requires-in-4
-write-apu-requires-in-4 c =
+pub write-apu-requires-in-Noise : goal.write-apu-requires-in-Noise
+write-apu-requires-in-Noise c =
     let loop = c.loop-apu in
     loop.invariant.going.ready.held.noise
 
-pub loop-apu-smaller-in-4 : goal.loop-apu-smaller-in-4
-loop-apu-smaller-in-4 c =
-    let if5 = c.if-not-part in
-    let part_at = c.part_at-part in
+pub loop-apu-smaller-in-Noise : goal.loop-apu-smaller-in-Noise
+loop-apu-smaller-in-Noise c =
     let if2 = c.if-r-ne0 in
     let reckon = c.reckon-r in
-    let lies = part_some c.args.version c.args.log.now reckon.result.at part_at.ensures if5.false in
+    let lies = part_some c.args.version c.args.log.now reckon.result.at (sym c.in-Some.ensures) in
     let idle = reckon.ensures.idle if2.false in
     omega (arith, ahead_next lies idle.0, reckon.ensures.reckons.less)
 
-pub loop-apu-preserved-in-4 : goal.loop-apu-preserved-in-4
-loop-apu-preserved-in-4 c =
-    let write4 = c.write-apu-in-4 in
+pub loop-apu-preserved-in-Noise : goal.loop-apu-preserved-in-Noise
+loop-apu-preserved-in-Noise c =
+    let write4 = c.write-apu-in-Noise in
     let next-position2 = c.next_position-else-r-ne0 in
-    let group-write = c.group_write-write in
-    let if5 = c.if-not-part in
-    let part_at = c.part_at-part in
     let if2 = c.if-r-ne0 in
     let reckon = c.reckon-r in
     let loop = c.loop-apu in
-    let lies = part_some c.args.version c.args.log.now reckon.result.at part_at.ensures if5.false in
+    let lies = part_some c.args.version c.args.log.now reckon.result.at (sym c.in-Some.ensures) in
     let k = reckon.ensures.reckons in
     let z = if2.false in
-    let w = group-write.result in
+    let w = c.in-Some-group_write.write in
     let b = marked loop.apu reckon.result.half reckon.result.stored in
     let next = next_read loop.apu.sequencer_position _ loop.invariant.going.ready.held.position next-position2.ensures in
-    let put = noise_put w b next c.in-4.is write4.ensures in
-    let said = group-write.ensures ∙ group-written _ _ _ in
-    item_written loop.invariant k z (reckon.ensures.idle z) lies said (λ e. omega (arith, e, c.in-4.is)) (omega (arith, group-write.type_inv)) put
+    let put = noise_put w b next c.in-Noise.is write4.ensures in
+    let said = c.in-Some-group_write.ensures ∙ group-written _ _ _ in
+    item_written loop.invariant k z (reckon.ensures.idle z) lies said (omega arith) put
 
 pub play_record-q-requires : goal.play_record-q-requires
 play_record-q-requires c =
-    let if5 = c.if-not-part in
-    let part_at = c.part_at-part in
     let if2 = c.if-r-ne0 in
     let reckon = c.reckon-r in
     let loop = c.loop-apu in
-    let lies = part_some c.args.version c.args.log.now reckon.result.at part_at.ensures if5.false in
+    let lies = part_some c.args.version c.args.log.now reckon.result.at (sym c.in-Some.ensures) in
     let k = reckon.ensures.reckons in
     let z = if2.false in
     let ready = b_ready loop.invariant k in
@@ -411,23 +379,19 @@ play_record-q-requires c =
 
 pub loop-apu-smaller : goal.loop-apu-smaller
 loop-apu-smaller c =
-    let if5 = c.if-not-part in
-    let part_at = c.part_at-part in
     let if2 = c.if-r-ne0 in
     let reckon = c.reckon-r in
-    let lies = part_some c.args.version c.args.log.now reckon.result.at part_at.ensures if5.false in
+    let lies = part_some c.args.version c.args.log.now reckon.result.at (sym c.in-Some.ensures) in
     let idle = reckon.ensures.idle if2.false in
     omega (arith, ahead_next lies idle.0, reckon.ensures.reckons.less)
 
 pub loop-apu-preserved : goal.loop-apu-preserved
 loop-apu-preserved c =
     let play-record = c.play_record-q in
-    let if5 = c.if-not-part in
-    let part_at = c.part_at-part in
     let if2 = c.if-r-ne0 in
     let reckon = c.reckon-r in
     let loop = c.loop-apu in
-    let lies = part_some c.args.version c.args.log.now reckon.result.at part_at.ensures if5.false in
+    let lies = part_some c.args.version c.args.log.now reckon.result.at (sym c.in-Some.ensures) in
     let k = reckon.ensures.reckons in
     let z = if2.false in
     let played = play-record.ensures in

@@ -1,10 +1,20 @@
 -- In each way what the judge says is that way's record, and its call does what the record does. Assumes nothing.
 use native.Mathlib.Omega.{arith}
-use mathlib.Core.Path.{sym, ◌∙◌}
+use mathlib.Core.Path.{◌≡◌, refl, sym, ap, ◌∙◌}
+use Prim.Native.Nat.{ℕ}
+use Rattle.std.specs.Prelude.{Result, Ok, Err}
+use Rattle.std.specs.Result.{result_unwrap_or}
+use Rattle.apu.specs.Answers.{returned_of_read}
+use Rattle.apu.specs.declared.registers.WrongAddress.{WrongAddress}
 use Rattle.log_records.specs.Judge.{judge_of}
 use Rattle.log_records.proofs.Judged.{clock_few}
 use Rattle.log_player.proofs.Recorded.{write_made, read_made, pcm_made, clock_made, wrong_made, read_room, pcm_room, clock_room}
 use Rattle.log_player.proofs.play.play_record.Goals as goal
+
+-- the byte read, or 0
+returned_is : (r : Result ℕ WrongAddress) → result_unwrap_or r 0 ≡ returned_of_read r
+returned_is (Ok b) = refl
+returned_is (Err wrong) = refl
 
 pub write_register-written-requires : goal.write_register-written-requires
 write_register-written-requires c = c.requires.held
@@ -65,13 +75,13 @@ shape_of-out-in-Ok-Read c = c.put_read.auto.out
 pub returns-in-Ok-Read : goal.returns-in-Ok-Read
 returns-in-Ok-Read c =
     let put = c.put_read in
-    let byte = c.byte_of in
+    let byte = c.unwrap_or in
     let read = c.read_register in
     let a = c.args in
     let is = sym (rw c.in-Ok-Read.field-0-is at c.in-Ok-Read.ensures) in
     let made =
     read_made (judge_of a.version a.body.now) a.p a.out.now c.requires.held c.requires.floats_held
-    _ byte.result _ is (rw read.ensures.0 at byte.ensures) put.ensures in
+    _ byte.result _ is (byte.ensures ∙ returned_is read.result ∙ ap returned_of_read read.ensures.0) put.ensures in
     record { value = made.0; out_after = made.1.0; still_held = made.1.1 }
 
 pub shape_of-out-in-Ok-Clock : goal.shape_of-out-in-Ok-Clock

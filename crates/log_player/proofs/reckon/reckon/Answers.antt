@@ -1,7 +1,7 @@
 -- At every turn owing what was reckoned so far, at its place, is owing what was owed at the start; with each turn less of the log is to come. Assumes nothing.
 use native.Mathlib.Omega.{arith}
-use mathlib.Core.Path.{refl}
-use Rattle.log_player.proofs.Reckoning.{reckoning, not_true, calls_left, calls_few}
+use mathlib.Core.Path.{refl, sym}
+use Rattle.log_player.proofs.Reckoning.{reckoning, none_of, calls_left, calls_few}
 use Rattle.log_player.proofs.Reckoning.{Turn, turn_of, turn_count, turn_few, turn_fell, Past, past_all, past_some}
 use Rattle.log_player.proofs.Reckoning.{reckons_on, reckoning_on, reckons_fell}
 use Rattle.log_player.proofs.reckon.reckon.Goals as goal
@@ -10,48 +10,38 @@ use Rattle.log_player.proofs.reckon.reckon.Goals.{then-r-count, else-r-count}
 pub loop-clocks-init : goal.loop-clocks-init
 loop-clocks-init c = reckoning c.requires.between c.requires.more_bound c.requires.half_bound refl refl
 
-pub returns-then-not-clocks : goal.returns-then-not-clocks
-returns-then-not-clocks c =
-    let if1 = c.if-not-clocks in
-    let clocks-at = c.clocks_at-clocks in
+pub returns-in_default : goal.returns-in_default
+returns-in_default c =
     let loop = c.loop-clocks in
     let inv = loop.invariant in
-    record { reckons = inv.far; idle = λ z. (inv.far.place.none (rw (← clocks-at.ensures) (not_true _ if1.true)), (inv.only, inv.level)) }
+    record { reckons = inv.far; idle = λ z. (inv.far.place.none (none_of c.clocks_at.ensures c.in_default.not-Some), (inv.only, inv.level)) }
 
 pub overflow_sub-count : goal.overflow_sub-count
 overflow_sub-count c =
-    let if1 = c.if-not-clocks in
-    let clocks-at = c.clocks_at-clocks in
     let loop = c.loop-clocks in
-    omega (arith, calls_left loop.invariant clocks-at.ensures if1.false)
+    omega (arith, calls_left loop.invariant (sym c.in-Some.ensures))
 
 pub same_bit-some-requires : goal.same_bit-some-requires
 same_bit-some-requires c =
-    let if1 = c.if-not-clocks in
-    let clocks-at = c.clocks_at-clocks in
     let loop = c.loop-clocks in
-    let left = calls_left loop.invariant clocks-at.ensures if1.false in
-    let few = calls_few loop.invariant clocks-at.ensures if1.false in
+    let left = calls_left loop.invariant (sym c.in-Some.ensures) in
+    let few = calls_few loop.invariant (sym c.in-Some.ensures) in
     record { i_bound = omega (arith, left, few); le_count = omega (arith, left) }
 
 pub divider_at-requires : goal.divider_at-requires
 divider_at-requires c =
-    let if1 = c.if-not-clocks in
-    let clocks-at = c.clocks_at-clocks in
     let loop = c.loop-clocks in
-    let left = calls_left loop.invariant clocks-at.ensures if1.false in
-    let few = calls_few loop.invariant clocks-at.ensures if1.false in
+    let left = calls_left loop.invariant (sym c.in-Some.ensures) in
+    let few = calls_few loop.invariant (sym c.in-Some.ensures) in
     omega (arith, left, few)
 
 pub meet-met-requires : goal.meet-met-requires
 meet-met-requires c =
     let same_bit = c.same_bit-some in
-    let if1 = c.if-not-clocks in
-    let clocks-at = c.clocks_at-clocks in
     let loop = c.loop-clocks in
     record {
       half_bound = loop.invariant.far.halves;
-      count_bound = omega (arith, same_bit.ensures.lower_bound.1, calls_few loop.invariant clocks-at.ensures if1.false);
+      count_bound = omega (arith, same_bit.ensures.lower_bound.1, calls_few loop.invariant (sym c.in-Some.ensures));
     }
 
 pub overflow_add-r : goal.overflow_add-r
@@ -60,12 +50,10 @@ overflow_add-r c =
     let sequencer-bit = c.sequencer_bit-bit in
     let divider-at = c.divider_at in
     let same_bit = c.same_bit-some in
-    let if1 = c.if-not-clocks in
-    let clocks-at = c.clocks_at-clocks in
     let loop = c.loop-clocks in
-    let turn : Turn c.args.version c.args.log.now c.args.power loop.r clocks-at.result same_bit.result meet.result =
-    turn_of clocks-at.ensures if1.false (same_bit.ensures.lower_bound, same_bit.ensures.one_bit) divider-at.ensures sequencer-bit.ensures meet.ensures in
-    omega (arith, turn.within, turn_count turn, calls_left loop.invariant clocks-at.ensures if1.false)
+    let turn : Turn c.args.version c.args.log.now c.args.power loop.r c.in-Some.clocks same_bit.result meet.result =
+    turn_of (sym c.in-Some.ensures) (same_bit.ensures.lower_bound, same_bit.ensures.one_bit) divider-at.ensures sequencer-bit.ensures meet.ensures in
+    omega (arith, turn.within, turn_count turn, calls_left loop.invariant (sym c.in-Some.ensures))
 
 pub overflow_add-r-then-met : goal.overflow_add-r-then-met
 overflow_add-r-then-met c =
@@ -74,11 +62,9 @@ overflow_add-r-then-met c =
     let sequencer-bit = c.sequencer_bit-bit in
     let divider-at = c.divider_at in
     let same_bit = c.same_bit-some in
-    let if1 = c.if-not-clocks in
-    let clocks-at = c.clocks_at-clocks in
     let loop = c.loop-clocks in
-    let turn : Turn c.args.version c.args.log.now c.args.power loop.r clocks-at.result same_bit.result meet.result =
-    turn_of clocks-at.ensures if1.false (same_bit.ensures.lower_bound, same_bit.ensures.one_bit) divider-at.ensures sequencer-bit.ensures meet.ensures in
+    let turn : Turn c.args.version c.args.log.now c.args.power loop.r c.in-Some.clocks same_bit.result meet.result =
+    turn_of (sym c.in-Some.ensures) (same_bit.ensures.lower_bound, same_bit.ensures.one_bit) divider-at.ensures sequencer-bit.ensures meet.ensures in
     let past : Past turn if2.r =
     elim if2.branch [
       | then-r-count w ↦ past_all turn w.if-r-count.true w.r-is
@@ -93,11 +79,9 @@ overflow_sub-r c =
     let sequencer-bit = c.sequencer_bit-bit in
     let divider-at = c.divider_at in
     let same_bit = c.same_bit-some in
-    let if1 = c.if-not-clocks in
-    let clocks-at = c.clocks_at-clocks in
     let loop = c.loop-clocks in
-    let turn : Turn c.args.version c.args.log.now c.args.power loop.r clocks-at.result same_bit.result meet.result =
-    turn_of clocks-at.ensures if1.false (same_bit.ensures.lower_bound, same_bit.ensures.one_bit) divider-at.ensures sequencer-bit.ensures meet.ensures in
+    let turn : Turn c.args.version c.args.log.now c.args.power loop.r c.in-Some.clocks same_bit.result meet.result =
+    turn_of (sym c.in-Some.ensures) (same_bit.ensures.lower_bound, same_bit.ensures.one_bit) divider-at.ensures sequencer-bit.ensures meet.ensures in
     turn_fell turn if3.true
 
 pub returns-then-met : goal.returns-then-met
@@ -108,11 +92,9 @@ returns-then-met c =
     let sequencer-bit = c.sequencer_bit-bit in
     let divider-at = c.divider_at in
     let same_bit = c.same_bit-some in
-    let if1 = c.if-not-clocks in
-    let clocks-at = c.clocks_at-clocks in
     let loop = c.loop-clocks in
-    let turn : Turn c.args.version c.args.log.now c.args.power loop.r clocks-at.result same_bit.result meet.result =
-    turn_of clocks-at.ensures if1.false (same_bit.ensures.lower_bound, same_bit.ensures.one_bit) divider-at.ensures sequencer-bit.ensures meet.ensures in
+    let turn : Turn c.args.version c.args.log.now c.args.power loop.r c.in-Some.clocks same_bit.result meet.result =
+    turn_of (sym c.in-Some.ensures) (same_bit.ensures.lower_bound, same_bit.ensures.one_bit) divider-at.ensures sequencer-bit.ensures meet.ensures in
     let past : Past turn if2.r =
     elim if2.branch [
       | then-r-count w ↦ past_all turn w.if-r-count.true w.r-is
@@ -127,11 +109,9 @@ overflow_add-r-in-loop-clocks c =
     let sequencer-bit = c.sequencer_bit-bit in
     let divider-at = c.divider_at in
     let same_bit = c.same_bit-some in
-    let if1 = c.if-not-clocks in
-    let clocks-at = c.clocks_at-clocks in
     let loop = c.loop-clocks in
-    let turn : Turn c.args.version c.args.log.now c.args.power loop.r clocks-at.result same_bit.result meet.result =
-    turn_of clocks-at.ensures if1.false (same_bit.ensures.lower_bound, same_bit.ensures.one_bit) divider-at.ensures sequencer-bit.ensures meet.ensures in
+    let turn : Turn c.args.version c.args.log.now c.args.power loop.r c.in-Some.clocks same_bit.result meet.result =
+    turn_of (sym c.in-Some.ensures) (same_bit.ensures.lower_bound, same_bit.ensures.one_bit) divider-at.ensures sequencer-bit.ensures meet.ensures in
     let past : Past turn if2.r =
     elim if2.branch [
       | then-r-count w ↦ past_all turn w.if-r-count.true w.r-is
@@ -148,11 +128,9 @@ returns-then-r-gt16383 c =
     let sequencer-bit = c.sequencer_bit-bit in
     let divider-at = c.divider_at in
     let same_bit = c.same_bit-some in
-    let if1 = c.if-not-clocks in
-    let clocks-at = c.clocks_at-clocks in
     let loop = c.loop-clocks in
-    let turn : Turn c.args.version c.args.log.now c.args.power loop.r clocks-at.result same_bit.result meet.result =
-    turn_of clocks-at.ensures if1.false (same_bit.ensures.lower_bound, same_bit.ensures.one_bit) divider-at.ensures sequencer-bit.ensures meet.ensures in
+    let turn : Turn c.args.version c.args.log.now c.args.power loop.r c.in-Some.clocks same_bit.result meet.result =
+    turn_of (sym c.in-Some.ensures) (same_bit.ensures.lower_bound, same_bit.ensures.one_bit) divider-at.ensures sequencer-bit.ensures meet.ensures in
     let past : Past turn if2.r =
     elim if2.branch [
       | then-r-count w ↦ past_all turn w.if-r-count.true w.r-is
@@ -167,11 +145,9 @@ loop-clocks-smaller c =
     let sequencer-bit = c.sequencer_bit-bit in
     let divider-at = c.divider_at in
     let same_bit = c.same_bit-some in
-    let if1 = c.if-not-clocks in
-    let clocks-at = c.clocks_at-clocks in
     let loop = c.loop-clocks in
-    let turn : Turn c.args.version c.args.log.now c.args.power loop.r clocks-at.result same_bit.result meet.result =
-    turn_of clocks-at.ensures if1.false (same_bit.ensures.lower_bound, same_bit.ensures.one_bit) divider-at.ensures sequencer-bit.ensures meet.ensures in
+    let turn : Turn c.args.version c.args.log.now c.args.power loop.r c.in-Some.clocks same_bit.result meet.result =
+    turn_of (sym c.in-Some.ensures) (same_bit.ensures.lower_bound, same_bit.ensures.one_bit) divider-at.ensures sequencer-bit.ensures meet.ensures in
     let past : Past turn if2.r =
     elim if2.branch [
       | then-r-count w ↦ past_all turn w.if-r-count.true w.r-is
@@ -188,11 +164,9 @@ loop-clocks-preserved c =
     let sequencer-bit = c.sequencer_bit-bit in
     let divider-at = c.divider_at in
     let same_bit = c.same_bit-some in
-    let if1 = c.if-not-clocks in
-    let clocks-at = c.clocks_at-clocks in
     let loop = c.loop-clocks in
-    let turn : Turn c.args.version c.args.log.now c.args.power loop.r clocks-at.result same_bit.result meet.result =
-    turn_of clocks-at.ensures if1.false (same_bit.ensures.lower_bound, same_bit.ensures.one_bit) divider-at.ensures sequencer-bit.ensures meet.ensures in
+    let turn : Turn c.args.version c.args.log.now c.args.power loop.r c.in-Some.clocks same_bit.result meet.result =
+    turn_of (sym c.in-Some.ensures) (same_bit.ensures.lower_bound, same_bit.ensures.one_bit) divider-at.ensures sequencer-bit.ensures meet.ensures in
     let past : Past turn if2.r =
     elim if2.branch [
       | then-r-count w ↦ past_all turn w.if-r-count.true w.r-is

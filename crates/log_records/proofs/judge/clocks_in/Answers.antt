@@ -1,5 +1,5 @@
 -- The kind, the speed, the phase and the count say whether it is one. Assumes nothing.
-use mathlib.Core.Path.{sym, ◌∙◌}
+use mathlib.Core.Path.{sym}
 use Rattle.log_records.proofs.Judged.{clocks_right, clocks_none}
 use Rattle.log_records.proofs.judge.clocks_in.Goals as goal
 
@@ -25,6 +25,5 @@ returns c =
     let clock-length = c.clock_length-length in
     let args = c.args in
     let pre = c.requires in
-    let no-clocks = c.no_clocks in
     let said = rw (fair.ensures, word_at.ensures, divider-in.ensures, clock-length.ensures.value) at if1.false in
-    no-clocks.ensures ∙ sym (clocks_none args.end args.version args.body.now pre said)
+    sym (clocks_none args.end args.version args.body.now pre said)

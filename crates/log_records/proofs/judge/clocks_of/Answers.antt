@@ -15,22 +15,20 @@ part-is at n = omega arith
 pub returns-then-n-length : goal.returns-then-n-length
 unfolding pick clocks_at
 returns-then-n-length c =
-    let no-clocks = c.no_clocks in
     let if1 = c.if-n-length in
     let clock-length = c.clock_length-length in
     let a = c.args in
     let far : length a.log.now < a.at + 2 + clock_length a.version = omega (arith, if1.true, clock-length.ensures.value) in
-    rw (lt-leb _ _ far) no-clocks.ensures
+    rw (lt-leb _ _ far)
 
 pub returns-then-n-length-2 : goal.returns-then-n-length-2
 unfolding pick clocks_at
 returns-then-n-length-2 c =
-    let no-clocks2 = c.no_clocks-then-n-length-2 in
     let if2 = c.if-n-length-2 in
     let clock-length = c.clock_length-length in
     let a = c.args in
     let far : length a.log.now < a.at + 2 + clock_length a.version = omega (arith, if2.true, clock-length.ensures.value) in
-    rw (lt-leb _ _ far) no-clocks2.ensures
+    rw (lt-leb _ _ far)
 
 pub returns-then-word_at-length : goal.returns-then-word_at-length
 unfolding pick clocks_at
@@ -49,7 +47,6 @@ returns-then-word_at-length c =
 pub returns : goal.returns
 unfolding pick clocks_at
 returns c =
-    let no-clocks3 = c.no_clocks-2 in
     let if3 = c.if-word_at-length in
     let word_at = c.word_at in
     let if2 = c.if-n-length-2 in
@@ -57,4 +54,4 @@ returns c =
     let clock-length = c.clock_length-length in
     let a = c.args in
     let near : a.at + 2 + clock_length a.version ≤ length a.log.now = omega (arith, if1.false, if2.false, clock-length.ensures.value) in
-    rw (le-leb _ _ near, ← word_at.ensures, ← clock-length.ensures.value, ne_eqb _ _ if3.false) no-clocks3.ensures
+    rw (le-leb _ _ near, ← word_at.ensures, ← clock-length.ensures.value, ne_eqb _ _ if3.false)

@@ -1,6 +1,7 @@
 -- Each way out is the case of `scanned_as` that the tests and the scan pick. Assumes nothing.
+use Rattle.std.specs.Prelude.{Ok}
 use Rattle.ground.specs.Pick.{pick}
-use Rattle.log_scan.specs.Answers.{scanned_as, refused_for, returned_for}
+use Rattle.log_scan.specs.Answers.{LogAnswer, scanned_as, scanned_from, refused_for, returned_for}
 use Prim.Native.Nat.{ℕ}
 use mathlib.Core.List.{List}
 use mathlib.Core.Path.{◌≡◌, refl, sym, ◌∙◌, ap, subst}
@@ -53,11 +54,11 @@ returns-in-None c =
     let counted = c.counted in
     let found = own args.log.now scan-list.ensures version_of.ensures in
     let first = sym (ap (λ (f : Found). f.wrong) found) ∙ c.in-None.is in
+    let is : ◌≡◌ {A = LogAnswer} (Ok counted.result) (scanned_from args.meter args.log.now) =
+    rw (le-ltb _ _ if1.false, ← at-bad-start.ensures, if2.false, first) (ap Ok (rw found at counted.ensures)) in
     record {
-      value = rw (le-ltb _ _ if1.false, ← at-bad-start.ensures, if2.false, first) (rw found at counted.ensures);
-      result_value =
-          (scan_refuses _ _ {r = counted.result}
-          (rw (le-ltb _ _ if1.false, ← at-bad-start.ensures, if2.false, first) (rw found at counted.ensures))).1;
+      value = is;
+      result_value = (scan_refuses _ _ is).1;
     }
 
 pub returns-in-Some : goal.returns-in-Some

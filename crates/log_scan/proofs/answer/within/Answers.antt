@@ -1,42 +1,29 @@
--- Each way is a clause of `within_room`. Assumes nothing.
+-- A refusal stays as it is; else the room decides. Assumes nothing.
+use Rattle.std.specs.Prelude.{Ok, Err}
+use Rattle.log_scan.specs.declared.answer.LogRefusal.TheVariants.{TooShort}
 use borrow.Author.Tests.{lt-ltb, le-ltb}
+use Rattle.std.proofs.lemmas.Result.{err_from_is_err_and}
+use mathlib.Core.Path.{refl}
 use Rattle.ground.specs.Pick.{pick}
 use Rattle.log_scan.specs.Answers.{within_room}
-use mathlib.Core.Path.{refl}
+use Rattle.log_scan.proofs.Refusals.{within_refuses}
 use Rattle.log_scan.proofs.answer.within.Goals as goal
 
-pub returns-then-room-written : goal.returns-then-room-written
-unfolding pick within_room
-returns-then-room-written c =
-    let a = c.args in
-    record { value = rw (c.in-Done.is, lt-ltb _ _ c.if-room-written.true); result_value = rw (c.in-Done.is, lt-ltb _ _ c.if-room-written.true) (refl, refl) }
+pub returns-in_err-played : goal.returns-in_err-played
+unfolding within_room
+returns-in_err-played c =
+    let p = err_from_is_err_and c.from_residual.result c.from_residual.ensures.1 in
+    let told = within_refuses c.args.room c.args.answer (rw (p.1, p.2, c.in_err-played.was) refl) in
+    record { value = told.0; result_value = told.1 }
 
-pub returns-else-room-written : goal.returns-else-room-written
+pub returns-then-room-played : goal.returns-then-room-played
 unfolding pick within_room
-returns-else-room-written c =
-    let a = c.args in
-    record { value = rw (c.in-Done.is, le-ltb _ _ c.if-room-written.false); result_value = rw (c.in-Done.is, le-ltb _ _ c.if-room-written.false) (refl, refl) }
+returns-then-room-played c =
+    let told = within_refuses c.args.room c.args.answer {r = Err (TooShort c.in_ok-played.played.written)} (rw (c.in_ok-played.was, lt-ltb _ _ c.if-room-played.true)) in
+    record { value = told.0; result_value = told.1 }
 
-pub returns-in-TooLong : goal.returns-in-TooLong
+pub returns : goal.returns
 unfolding pick within_room
-returns-in-TooLong c =
-    let a = c.args in
-    record { value = rw c.in-TooLong.is; result_value = rw c.in-TooLong.is (refl, refl) }
-
-pub returns-in-BadStart : goal.returns-in-BadStart
-unfolding pick within_room
-returns-in-BadStart c =
-    let a = c.args in
-    record { value = rw c.in-BadStart.is; result_value = rw c.in-BadStart.is (refl, refl) }
-
-pub returns-in-WrongRecord : goal.returns-in-WrongRecord
-unfolding pick within_room
-returns-in-WrongRecord c =
-    let a = c.args in
-    record { value = rw c.in-WrongRecord.is; result_value = rw c.in-WrongRecord.is (refl, refl) }
-
-pub returns-in-TooShort : goal.returns-in-TooShort
-unfolding pick within_room
-returns-in-TooShort c =
-    let a = c.args in
-    record { value = rw c.in-TooShort.is; result_value = rw c.in-TooShort.is (refl, refl) }
+returns c =
+    let told = within_refuses c.args.room c.args.answer {r = Ok c.in_ok-played.played} (rw (c.in_ok-played.was, le-ltb _ _ c.if-room-played.false)) in
+    record { value = told.0; result_value = told.1 }

@@ -1,17 +1,11 @@
 -- At every turn the bytes put so far, with those of the commands to come, are all of the log's; the place moves on by one byte and more. Assumes nothing.
 use native.Mathlib.Omega.{arith}
-use mathlib.Core.Path.{◌≡◌, refl, ap, ◌∙◌}
-use mathlib.Core.List.{[]}
+use mathlib.Core.Path.{◌≡◌, ap, ◌∙◌}
 use Prim.Native.Nat.{ℕ, ◌+◌}
 use Rattle.std.specs.Prelude.{Option, None, Ok}
-use Rattle.log_vgm.specs.Log.{bytes_on}
 use Rattle.log_vgm.proofs.Walking.{taken_fits, at_taken, at_end, at_bad}
 use Rattle.log_vgm.proofs.Putting.{part_long, part_put, next_fits, put_more, ended_put, stopped_put}
 use Rattle.log_vgm.proofs.write.put_commands.Goals as goal
-
-pub loop-taken-init : goal.loop-taken-init
-unfolding bytes_on
-loop-taken-init c = record { gone = []; here = refl; bytes = refl; rest = refl; room = c.requires }
 
 pub put_command-at-requires : goal.put_command-at-requires
 put_command-at-requires c =

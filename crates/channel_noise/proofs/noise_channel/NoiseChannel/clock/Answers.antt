@@ -6,7 +6,7 @@ use Rattle.channel_noise.proofs.noise_channel.NoiseChannel.clock.Goals as goal
 
 pub returns-then-self-eq0 : goal.returns-then-self-eq0
 unfolding pick clocked
-returns-then-self-eq0 c = rw (eq-eqb _ _ c.if-self-eq0.true, c.clock_feedback_register.ensures, c.get_frequency.ensures)
+returns-then-self-eq0 c = rw (eq-eqb _ _ c.if-self-eq0.true, c.step_one.ensures.value, c.get_frequency.ensures)
 
 pub returns-else-self-eq0 : goal.returns-else-self-eq0
 unfolding pick clocked

@@ -8,16 +8,16 @@ pub bounds-buffer-i : goal.bounds-buffer-i
 bounds-buffer-i c =
     let index = c.wave_buffer_index in
     let args = c.args in
-    rw (sym index.ensures ∙ c.in-At.is) at (index_lands args.self args.dmg args.offset)
+    rw (sym index.ensures ∙ c.in-Some.is) at (index_lands args.self args.dmg args.offset)
 
-pub returns-in-At : goal.returns-in-At
+pub returns-in-Some : goal.returns-in-Some
 unfolding byte_at
-returns-in-At c =
+returns-in-Some c =
     let index = c.wave_buffer_index in
-    rw (sym index.ensures ∙ c.in-At.is)
+    rw (sym index.ensures ∙ c.in-Some.is)
 
-pub returns-in-Nowhere : goal.returns-in-Nowhere
+pub returns-in-None : goal.returns-in-None
 unfolding byte_at
-returns-in-Nowhere c =
+returns-in-None c =
     let index = c.wave_buffer_index in
-    rw (sym index.ensures ∙ c.in-Nowhere.is)
+    rw (sym index.ensures ∙ c.in-None.is)

@@ -8,16 +8,16 @@ pub bounds-next-i : goal.bounds-next-i
 bounds-next-i c =
     let index = c.wave_buffer_index in
     let args = c.args in
-    rw (sym index.ensures ∙ c.in-At.is) at (index_lands args.self args.dmg args.offset)
+    rw (sym index.ensures ∙ c.in-Some.is) at (index_lands args.self args.dmg args.offset)
 
-pub returns-in-At : goal.returns-in-At
+pub returns-in-Some : goal.returns-in-Some
 unfolding stored
-returns-in-At c =
+returns-in-Some c =
     let index = c.wave_buffer_index in
-    rw (sym index.ensures ∙ c.in-At.is)
+    rw (sym index.ensures ∙ c.in-Some.is)
 
-pub returns-in-Nowhere : goal.returns-in-Nowhere
+pub returns-in_default : goal.returns-in_default
 unfolding stored
-returns-in-Nowhere c =
+returns-in_default c =
     let index = c.wave_buffer_index in
-    rw (sym index.ensures ∙ c.in-Nowhere.is)
+    rw (sym index.ensures ∙ c.in_default.is)

@@ -1,0 +1,19 @@
+// What a refusal is, whoever refuses: a number from the table of refusals, and a number that it returns, such as a place or the bytes needed.
+ghost use Rattle.std.specs.Prelude.{◌≡◌, ℕ, ◌≤◌};
+
+pub trait Refusal: Copy {
+    ghost number_of: { Self → ℕ };
+
+    ghost number_returned: { Self → ℕ };
+
+    // Its number in the table.
+    fn number(self) -> u64
+        ensures { result ≡ number_of self };
+
+    // The number that it returns.
+    fn returned(self) -> u64
+        ensures { result ≡ number_returned self };
+
+    // The table ends with 11.
+    ghost in_table: { (r : Self) → number_of r ≤ 11 };
+}
