@@ -16,7 +16,7 @@ use expected::{Case, Kind, answer_is};
 use imported::import_is;
 use log_player::log::play_log;
 use log_scan::answer::{LogAnswer, LogRefusal};
-use plain::{NOWHERE, play_plainly};
+use plain::play_plainly;
 use std::io::Read;
 use tally::Tally;
 
@@ -60,11 +60,8 @@ fn answer_of(log: &[u8], room: usize, out: &mut [u8]) -> LogAnswer {
 }
 
 // How many bytes the log makes on the unit itself, in an output of so many bytes.
-fn plain_length(log: &[u8], room: usize, out: &mut [u8]) -> usize {
-    match out.get_mut(..room) {
-        Some(out) => play_plainly(log, out),
-        None => NOWHERE,
-    }
+fn plain_length(log: &[u8], room: usize, out: &mut [u8]) -> Option<u64> {
+    play_plainly(log, out.get_mut(..room)?)
 }
 
 // Whether a log that is not refused makes the bytes of the case on the unit itself too.
@@ -74,7 +71,7 @@ fn plainly_same(case: Case, log: &[u8], want: &[u8], out: &mut [u8]) -> bool {
     }
     fill(out);
     let made = plain_length(log, case.room, out);
-    made == case.written() && output_is(case, want, out)
+    made == Some(case.number) && output_is(case, want, out)
 }
 
 // Plays the log both ways, or imports the file, and compares everything that it answers.

@@ -2,7 +2,7 @@
 use Rattle.apu_clock.proofs.Demand3.{stored_held}
 use Rattle.player.proofs.show_log.Goals as goal
 
-pub scan_from-answer-requires : goal.scan_from-answer-requires
-scan_from-answer-requires g c =
+pub scan_from-requires : goal.scan_from-requires
+scan_from-requires g c =
     let ranges = c.start-apu.ensures.held in
     rw c.meter_of.ensures (stored_held _ ranges.0 ranges.1)
