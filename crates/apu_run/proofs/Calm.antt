@@ -1,11 +1,12 @@
 -- While no channel steps, or steps once to the same output, what goes into the converters stays. Assumes nothing.
-use Prim.Native.Nat.{ℕ, zero, suc, ◌+◌, ◌-◌, ◌*◌, ◌/◌, ◌%◌, ◌≤◌, ◌<◌}
+use Prim.Native.Nat.{ℕ, zero, suc, min, ◌+◌, ◌-◌, ◌*◌, ◌/◌, ◌%◌, ◌≤◌, ◌<◌}
 use mathlib.Core.Path.{◌≡◌, refl, sym, ap, ◌∙◌}
 use mathlib.Core.Bool.{Bool, true, false}
 use mathlib.Core.Logic.{◌⊎◌, inl, inr}
 use mathlib.Core.List.{List}
 use native.Mathlib.Nat.{le_trans}
 use native.Mathlib.Omega.{arith}
+use Rattle.std.proofs.Math.Nat.{min-le_left, min-le_right}
 use borrow.Author.Tests.{eqb-true, ltb-true, ltb-false}
 use lib.Dec.{eqb, ltb}
 use Rattle.ground.specs.Pick.{pick}
@@ -23,12 +24,12 @@ use Rattle.channel_noise.specs.Noise.{stepped_register, feedback_of}
 use Rattle.channel_noise.specs.declared.phase.NoisePhase.{NoisePhase}
 use Rattle.channel_noise.proofs.Phases.{noise_phase_ran}
 use Rattle.channel_noise.proofs.Steps.{stepped_by, one_step}
-use Rattle.apu_run.specs.Phases.{PhasesHeld, least, phases_clocked}
+use Rattle.apu_run.specs.Phases.{PhasesHeld, phases_clocked}
 use Rattle.apu_run.specs.FrameSettings.{pulse_output, noise_output, levels_of, calm_by, pulse_calm, noise_calm, calm_of}
 use Rattle.apu_run.specs.declared.phases.Phases.{Phases}
 use Rattle.apu_run.specs.declared.phases.Settings.{Settings}
 use Rattle.apu_run.specs.declared.frame_settings.FrameSettings.{FrameSettings}
-use Rattle.apu_run.proofs.Moves.{least_first, least_second, moves, stands}
+use Rattle.apu_run.proofs.Moves.{moves, stands}
 
 -- ---- no step, or one that changes nothing
 stays : (same : Bool) (t r n : ℕ) → n ≤ calm_by same t r → (n ≤ t) ⊎ ((t < n) × ((n ≤ t + (r + 1)) × (same ≡ true)))
@@ -149,13 +150,13 @@ noise_same narrow v r n a h l = noise_one narrow v r n a h _ refl l
 module _ (s : Settings) (t : FrameSettings) (m : Phases) where
   abbrev pulses : ℕ
   pulses =
-      least (pulse_calm s.pulse1.first_trigger t.pulse1_row (pulse.reload_of s.pulse1) m.pulse1)
-      (pulse_calm s.pulse2.first_trigger t.pulse2_row (pulse.reload_of s.pulse2) m.pulse2)
+      min (pulse_calm s.pulse1.first_trigger t.pulse1.row (pulse.reload_of s.pulse1) m.pulse1)
+      (pulse_calm s.pulse2.first_trigger t.pulse2.row (pulse.reload_of s.pulse2) m.pulse2)
 
   abbrev others : ℕ
-  others = least (m.wave.frequency_timer / 2) (noise_calm s.noise_reload m.noise)
+  others = min (m.wave.frequency_timer / 2) (noise_calm s.noise_reload m.noise)
 
-  is_calm : calm_of s t m ≡ least pulses others
+  is_calm : calm_of s t m ≡ min pulses others
   unfolding calm_of
   is_calm = refl
 
@@ -166,16 +167,16 @@ module _ (s : Settings) (t : FrameSettings) (m : Phases) where
         go : (on : Bool) → s.power ≡ on → levels_of t (iterate n (phases_clocked s) m) ram ≡ levels_of t m ram
         go false e = ap (λ (x : Phases). levels_of t x ram) (stands s n m e)
         go true e =
-            let few : n ≤ least pulses others = rw is_calm at l in
-            let tones = le_trans few (least_first pulses others) in
-            let rest = le_trans few (least_second pulses others) in
+            let few : n ≤ min pulses others = rw is_calm at l in
+            let tones = le_trans few (min-le_left pulses others) in
+            let rest = le_trans few (min-le_right pulses others) in
             ap (λ (x : Phases). levels_of t x ram) (sym (moves s n m e))
             ∙ unfold levels_of in
             rw (
-              pulse_same s.pulse1.first_trigger t.pulse1_row t.pulse1_volume _ n m.pulse1 h.pulse1 (le_trans tones (least_first _ _)),
-              pulse_same s.pulse2.first_trigger t.pulse2_row t.pulse2_volume _ n m.pulse2 h.pulse2 (le_trans tones (least_second _ _)),
-              wave_same _ n m.wave h.wave (le_trans rest (least_first _ _)),
-              noise_same _ t.noise_volume _ n m.noise h.noise (le_trans rest (least_second _ _)),
+              pulse_same s.pulse1.first_trigger t.pulse1.row t.pulse1.volume _ n m.pulse1 h.pulse1 (le_trans tones (min-le_left _ _)),
+              pulse_same s.pulse2.first_trigger t.pulse2.row t.pulse2.volume _ n m.pulse2 h.pulse2 (le_trans tones (min-le_right _ _)),
+              wave_same _ n m.wave h.wave (le_trans rest (min-le_left _ _)),
+              noise_same _ t.noise_volume _ n m.noise h.noise (le_trans rest (min-le_right _ _)),
             )
 
   -- and they stay no longer than a run may be: the wave's timer is short
@@ -183,4 +184,4 @@ module _ (s : Settings) (t : FrameSettings) (m : Phases) where
   calm_few h =
       let most = h.wave.timer in
       let half : m.wave.frequency_timer / 2 ≤ 16383 = omega (arith, most) in
-      rw is_calm (le_trans (least_second pulses others) (le_trans (least_first _ _) half))
+      rw is_calm (le_trans (min-le_right pulses others) (le_trans (min-le_left _ _) half))

@@ -78,7 +78,7 @@ module _ (d : Converter) (control selection channel : ℕ) where
   left_volume = control / 16 % 8
 
   abbrev sounded : ℕ → Bool → Voiced
-  sounded output muted = sound_of d (in_of output) (route_of muted selection channel) (loud_of right_volume) (loud_of left_volume)
+  sounded output muted = sound_of d (in_of output) (route_of muted selection channel) (record { right = loud_of right_volume; left = loud_of left_volume })
 
   -- two channels whose converters are alike, by their sides
   same_sides : (k : Converter) (a b x y : Float) → a ≡ x → b ≡ y

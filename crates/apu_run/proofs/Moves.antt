@@ -1,14 +1,10 @@
 -- Many clocks of what moves are each part's own, and keep its ranges. Assumes nothing.
 use mathlib.Core.Path.{◌≡◌, refl, sym, ap, ◌∙◌}
-use mathlib.Core.Bool.{Bool, true, false, ◌&&◌}
-use lib.Dec.{leb, ltb}
-use borrow.Author.Tests.{leb-true, ltb-true, ltb-false}
-use Prim.Native.Nat.{ℕ, zero, suc, ◌+◌, ◌-◌, ◌*◌, ◌/◌, ◌≤◌}
-use native.Mathlib.Nat.{le_refl}
+use mathlib.Core.Bool.{true, false}
+use Prim.Native.Nat.{ℕ, zero, suc, ◌-◌, ◌≤◌}
 use native.Mathlib.Omega.{arith}
-use Rattle.ground.specs.Pick.{pick}
 use Rattle.ground.specs.Iterate.{iterate}
-use Rattle.ground.proofs.Cases.{pick_true, pick_false, pick_holds, and_left, and_right}
+use Rattle.ground.proofs.Cases.{pick_true, pick_false, pick_holds}
 use Rattle.ground.proofs.Timers.{iterate_holds}
 use Rattle.channel_pulse.specs.Pulse as pulse
 use Rattle.channel_pulse.specs.Phase.{pulse_phase_clocked}
@@ -20,7 +16,7 @@ use Rattle.channel_noise.specs.Phase.{noise_phase_clocked}
 use Rattle.channel_noise.proofs.Phases as hisses
 use Rattle.apu.specs.Held.{Held, FloatsHeld}
 use Rattle.apu.specs.declared.Apu.{Apu}
-use Rattle.apu_run.specs.Phases.{SettingsHeld, PhasesHeld, ConvertersHeld, settings_of, phases_of, converters_of, least, phases_clocked}
+use Rattle.apu_run.specs.Phases.{SettingsHeld, PhasesHeld, ConvertersHeld, settings_of, phases_of, converters_of, phases_clocked}
 use Rattle.apu_run.specs.declared.phases.Phases.{Phases}
 use Rattle.apu_run.specs.declared.phases.Settings.{Settings}
 
@@ -61,44 +57,6 @@ module _ (s : Settings) where
 
   pub moves_held : SettingsHeld s → (n : ℕ) (m : Phases) → PhasesHeld m → PhasesHeld (iterate n (phases_clocked s) m)
   moves_held h n m k = iterate_holds PhasesHeld (phases_clocked s) (move_held h) n m k
-
--- ---- the smaller of two is no more than either
-pub least_first : (a b : ℕ) → least a b ≤ a
-unfolding least pick
-least_first a b = go (ltb a b) refl
-  where
-    go : (t : Bool) → ltb a b ≡ t → pick t a b ≤ a
-    go true e = le_refl a
-    go false e = ltb-false a b e
-
-pub least_second : (a b : ℕ) → least a b ≤ b
-unfolding least pick
-least_second a b = go (ltb a b) refl
-  where
-    go : (t : Bool) → ltb a b ≡ t → pick t a b ≤ b
-    go true e = let l = ltb-true a b e in omega arith
-    go false e = le_refl b
-
--- ---- clocks no more than a period has, two for each of the wave's
-pub record Near (n r1 r2 r3 : ℕ) : Type 0 where
-  pub some : 1 ≤ n
-  pub pulse1 : n ≤ r1 + 1
-  pub pulse2 : n ≤ r2 + 1
-  pub wave : n * 2 ≤ r3 + 1
-
-pub near_of : (n r1 r2 r3 near : ℕ) → near ≡ least (least r1 r2) (r3 / 2) → (leb 1 n && leb n near) ≡ true → Near n r1 r2 r3
-near_of n r1 r2 r3 near e h =
-    let few : n ≤ near = leb-true n near (and_right (leb 1 n) _ h) in
-    let tones = least_first (least r1 r2) (r3 / 2) in
-    let third = least_second (least r1 r2) (r3 / 2) in
-    let first = least_first r1 r2 in
-    let second = least_second r1 r2 in
-    record {
-      some = leb-true 1 n (and_left (leb 1 n) _ h);
-      pulse1 = omega (arith, few, e, tones, first);
-      pulse2 = omega (arith, few, e, tones, second);
-      wave = omega (arith, few, e, third);
-    }
 
 -- the ranges of the unit's own
 pub settings_held : (a : Apu) → Held a → SettingsHeld (settings_of a)

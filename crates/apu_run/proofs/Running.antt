@@ -1,18 +1,18 @@
 -- What holds at each turn of the run's loop: what is left to do, from where it stands, comes to the whole. Assumes nothing.
 use mathlib.Core.Path.{◌≡◌, refl, sym, ap, ap₂, subst, ◌∙◌}
 use mathlib.Core.List.{List, [], ◌++◌}
-use Prim.Native.Nat.{ℕ, ◌+◌, ◌-◌, ◌*◌, ◌^◌, ◌≤◌, ◌<◌}
+use Prim.Native.Nat.{ℕ, min, ◌+◌, ◌-◌, ◌*◌, ◌^◌, ◌≤◌, ◌<◌}
 use mathlib.Core.Bool.{Bool, true, false, ◌||◌}
-use native.Mathlib.Nat.{add-zero, le_refl}
+use native.Mathlib.Nat.{add-zero}
 use native.Mathlib.Omega.{arith}
-use lib.Dec.{T, leb, ltb, leb→le}
-use borrow.Author.Tests.{le-leb, lt-leb, leb-false, ltb-false}
+use Rattle.std.proofs.Math.Nat.{min-le_right, min-eq_left, min-eq_right}
+use lib.Dec.{leb, ltb}
+use borrow.Author.Tests.{leb-false, ltb-false}
 use lib.ListN.{length, length-append}
 use lib.Seq.{sets, length-sets}
 use lib.Ieee.{Float}
 use Rattle.ground.specs.Iterate.{iterate}
 use Rattle.ground.specs.Pick.{pick}
-use Rattle.ground.proofs.Cases.{pick_true, pick_false}
 use Rattle.ground.proofs.Timers.{iterate_add}
 use Rattle.frame.specs.Mixing.{voiced, mixed}
 use Rattle.frame.proofs.Ranges.{stepped_held}
@@ -165,8 +165,8 @@ stood_same false d = refl
 still_first : (t : FrameSettings) (k : Converters) → stood_still t k k ≡ k
 still_first t k =
     rw (
-      stood_same t.pulse1_route.muted k.pulse1,
-      stood_same t.pulse2_route.muted k.pulse2,
+      stood_same t.pulse1.route.muted k.pulse1,
+      stood_same t.pulse2.route.muted k.pulse2,
       stood_same t.wave_route.muted k.wave,
       stood_same t.noise_route.muted k.noise,
     )
@@ -229,18 +229,10 @@ module _ {r : Task} {s : State} (g : Running r s) where
 
 -- the channels' clocks up to the frame that is due, or the last ones
 abbrev ahead : State → ℕ
-ahead s = pick (leb s.due s.left) (s.due - 1) s.left
-
-ahead_most : (due left : ℕ) → pick (leb due left) (due - 1) left ≤ left
-unfolding pick
-ahead_most due left = go (leb due left) (leb→le due left)
-  where
-    go : (b : Bool) → (T b → due ≤ left) → pick b (due - 1) left ≤ left
-    go true h = let l : due ≤ left = h tt in omega arith
-    go false h = le_refl left
+ahead s = min (s.due - 1) s.left
 
 pub few_clocks : {r : Task} {s : State} {n : ℕ} → Running r s → n ≡ ahead s → s.pending + n ≤ 32767
-few_clocks {r} {s} {n} g e = omega (arith, ahead_most s.due s.left, g.few)
+few_clocks {r} {s} {n} g e = omega (arith, min-le_right (s.due - 1) s.left, g.few)
 
 -- what moves, after those
 pub record Moved (r : Task) (s : State) (m : Phases) : Type 0 where
@@ -264,7 +256,7 @@ pub running_last : {r : Task} {s : State} {m : Phases} {k : Converters} {c : Flo
 running_last {r} {s} {m} {k} {c} {y} v l ke ye ce =
     let g : Running r s = v.running in
     let moved : m ≡ iterate (s.pending + s.left) (phases_clocked r.settings) s.phases =
-    v.is ∙ ap (λ (n : ℕ). iterate (s.pending + n) (phases_clocked r.settings) s.phases) (pick_false _ _ _ (lt-leb s.due s.left l)) in
+    v.is ∙ ap (λ (n : ℕ). iterate (s.pending + n) (phases_clocked r.settings) s.phases) (min-eq_right (let h : s.left ≤ s.due - 1 = omega arith in h)) in
     let all : ◌≡◌ {A = Point} (c, (m, k, g.bytes)) (whole r) =
     ap₂ (λ (x : Float) (y : Converters). (x, (m, y, g.bytes))) (ce ∙ ap units ye) ke
     ∙ rest r.settings s.phases (still r s.converters) s.units g.bytes s.left s.pending g.below m (rw g.next at l) moved
@@ -403,7 +395,7 @@ module _ {r : Task} {s : State} {m : Phases} {f : FrameStep} (v : Framed r s m f
   bytes_long = length-append before.bytes (mix_item f.mix) ∙ ap (λ (n : ℕ). length before.bytes + n) (item_long f.mix)
 
   to_due : ahead s ≡ s.due - 1
-  to_due = pick_true _ _ _ (le-leb s.due s.left v.due)
+  to_due = min-eq_left (let h : s.due - 1 ≤ s.left = omega arith in h)
 
   onward : from r.settings (s.left - s.due) later 1 m (still r f.converters) bytes ≡ whole r
   onward =

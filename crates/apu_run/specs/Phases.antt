@@ -1,5 +1,5 @@
 -- What the working clocks of the four channels move, and what they leave as it is. Assumes nothing.
-use Rattle.std.specs.Prelude.{Bool, ℕ, ◌/◌, ◌≤◌, ltb, Float}
+use Rattle.std.specs.Prelude.{Bool, ℕ, ◌/◌, ◌≤◌, ltb, min, Float}
 use Rattle.ground.specs.Pick.{pick}
 use Rattle.ground.specs.Iterate.{iterate}
 use Rattle.channel_pulse.specs.Pulse as pulse
@@ -81,15 +81,11 @@ tones_after s n m =
       wave = iterate n (wave_phase_clocked (wave.reload_of s.wave)) m.wave;
     }
 
--- of two numbers the smaller
-unfoldable pub least : ℕ → ℕ → ℕ
-least a b = pick (ltb a b) a b
-
 -- between two steps of a channel are at least as many clocks as its timer reloads to, of the wave half of it: whether a frame, 23 clocks or 24, is longer
 unfoldable pub fast_of : Settings → Bool
 fast_of s =
-    let tones = least (least (pulse.reload_of s.pulse1) (pulse.reload_of s.pulse2)) (wave.reload_of s.wave / 2) in
-    ltb (least tones s.noise_reload) 23
+    let tones = min (min (pulse.reload_of s.pulse1) (pulse.reload_of s.pulse2)) (wave.reload_of s.wave / 2) in
+    ltb (min tones s.noise_reload) 23
 
 -- a working clock of what moves: "With power off, stop", else "Clock pulse 1, pulse 2, wave, noise"
 unfoldable pub phases_clocked : Settings → Phases → Phases

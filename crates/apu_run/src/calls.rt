@@ -11,7 +11,6 @@ use crate::frames::{rest, silent, sound};
 use crate::phases::put_back;
 use apu::Apu;
 use apu_clock::sequencer::{advance, sequencer_bit};
-use channel_noise::reloads::reloads;
 use clocks::sample_counter::half_clocks_of;
 use log_records::divider::{Divider, divider_at};
 
@@ -88,11 +87,10 @@ pub fn settle(p: Play, owed: u32, out: &mut [u8]) -> Play
     ensures still_held { Held result.apu × FloatsHeld result.apu }
 {
     let unit = p.apu;
-    let list = reloads();
     let ran = if silent(unit) {
-        rest(unit, &list, owed, out, p.at)
+        rest(unit, owed, out, p.at)
     } else {
-        sound(unit, &list, owed, out, p.at)
+        sound(unit, owed, out, p.at)
     };
     let apu = put_back(unit, ran.phases, ran.converters, ran.counter);
     Play { apu, at: ran.at }
@@ -135,32 +133,29 @@ pub fn play_clocks(
     ensures out_after { out.new ≡ sets out.old p.at (clocks_bytes double divider from (to - from) p.apu) }
     ensures still_held { Held result.apu × FloatsHeld result.apu }
 {
-    let mut apu = p.apu;
-    let mut place = p.at;
+    let mut q = p;
     let mut owed = 0u32;
     let mut i = from;
     while i < to {
         let some = same_bit(double, divider, i as u32, (to - i) as u32);
         let bit = sequencer_bit(double, divider_at(divider, i as u32));
         let met = meet(
-            apu.clocks_counter,
-            apu.power,
-            apu.divider_sequencer_clock_bit,
+            q.apu.clocks_counter,
+            q.apu.power,
+            q.apu.divider_sequencer_clock_bit,
             double,
             bit,
             some,
         );
-        apu.clocks_counter = met.half;
+        q.apu.clocks_counter = met.half;
         i += some as u16;
         if met.fell {
-            let q = fall(Play { apu, at: place }, owed + 1, out);
-            apu = q.apu;
-            place = q.at;
+            q = fall(q, owed + 1, out);
             owed = met.working - 1;
         } else {
-            apu.divider_sequencer_clock_bit = met.stored;
+            q.apu.divider_sequencer_clock_bit = met.stored;
             owed += met.working;
         }
     }
-    settle(Play { apu, at: place }, owed, out)
+    settle(q, owed, out)
 }

@@ -1,10 +1,10 @@
 // What a run's settings give to each of its frames, worked out once for the run.
 ghost use Rattle.std.specs.Prelude.{◌≡◌, ◌≤◌};
-ghost use Rattle.apu_run.specs.FrameSettings.{loud_of, route_of, frame_settings_of};
+ghost use Rattle.apu_run.specs.FrameSettings.{loud_of, route_of, pulse_settings_of, frame_settings_of};
 
 use crate::phases::Settings;
-use channel_pulse::pulse_channel::duty_row;
-use frame::mixing::selected;
+use channel_pulse::pulse_channel::{PulseChannel, duty_row};
+use frame::mixing::{Sides, selected};
 
 // A channel's way from its converter to the two sides: a muted channel's converter stands still, and it goes to neither.
 #[derive(Clone, Copy)]
@@ -14,21 +14,24 @@ pub struct Route {
     pub leftward: bool,
 }
 
-// The duty rows, the channels' volumes and the wave's shift, wide, so that a frame masks nothing; the routes; each side's factor, its volume and 1.
+// A pulse's duty row and volume, wide, so that a frame masks nothing, and its route.
+#[derive(Clone, Copy)]
+pub struct PulseSettings {
+    pub row: u32,
+    pub volume: u32,
+    pub route: Route,
+}
+
+// The pulses; the wave's shift and the noise's volume, wide too, and their routes; each side's factor, its volume and 1.
 #[derive(Clone, Copy)]
 pub struct FrameSettings {
-    pub pulse1_row: u32,
-    pub pulse1_volume: u32,
-    pub pulse2_row: u32,
-    pub pulse2_volume: u32,
+    pub pulse1: PulseSettings,
+    pub pulse2: PulseSettings,
     pub wave_shift: u32,
-    pub noise_volume: u32,
-    pub pulse1_route: Route,
-    pub pulse2_route: Route,
     pub wave_route: Route,
+    pub noise_volume: u32,
     pub noise_route: Route,
-    pub loud_right: f32,
-    pub loud_left: f32,
+    pub loud: Sides,
 }
 
 // A side's factor at its volume.
@@ -52,31 +55,32 @@ fn route_of(muted: bool, selection: u8, channel: u8) -> Route
     }
 }
 
+fn pulse_settings_of(pulse: PulseChannel, selection: u8, channel: u8) -> PulseSettings
+    requires { channel ≤ 3 }
+    ensures { result ≡ pulse_settings_of pulse selection channel }
+{
+    PulseSettings {
+        row: duty_row(pulse.duty) as u32,
+        volume: pulse.envelope.current_volume as u32,
+        route: route_of(pulse.muted(), selection, channel),
+    }
+}
+
 pub fn frame_settings_of(settings: Settings) -> FrameSettings
     ensures { result ≡ frame_settings_of settings }
 {
-    let first = settings.pulse1;
-    let second = settings.pulse2;
-    let third = settings.wave;
-    let fourth = settings.noise;
     let control = settings.channels_control;
     let selection = settings.channels_selection;
-    let pulse1_route = route_of(first.muted(), selection, 0);
-    let pulse2_route = route_of(second.muted(), selection, 1);
-    let wave_route = route_of(third.muted(), selection, 2);
-    let noise_route = route_of(fourth.muted(), selection, 3);
     FrameSettings {
-        pulse1_row: duty_row(first.duty) as u32,
-        pulse1_volume: first.envelope.current_volume as u32,
-        pulse2_row: duty_row(second.duty) as u32,
-        pulse2_volume: second.envelope.current_volume as u32,
-        wave_shift: third.volume_shift as u32,
-        noise_volume: fourth.envelope.current_volume as u32,
-        pulse1_route,
-        pulse2_route,
-        wave_route,
-        noise_route,
-        loud_right: loud(control % 8),
-        loud_left: loud(control / 16 % 8),
+        pulse1: pulse_settings_of(settings.pulse1, selection, 0),
+        pulse2: pulse_settings_of(settings.pulse2, selection, 1),
+        wave_shift: settings.wave.volume_shift as u32,
+        wave_route: route_of(settings.wave.muted(), selection, 2),
+        noise_volume: settings.noise.envelope.current_volume as u32,
+        noise_route: route_of(settings.noise.muted(), selection, 3),
+        loud: Sides {
+            right: loud(control % 8),
+            left: loud(control / 16 % 8),
+        },
     }
 }

@@ -1,12 +1,10 @@
 // From frame to frame: the channels go their clocks up to the next frame at once, then the frame, and on.
-ghost use Rattle.std.specs.Prelude.{◌≡◌, ◌+◌, ◌-◌, ◌≤◌, ◌<◌, true, leb, length};
+ghost use Rattle.std.specs.Prelude.{◌≡◌, ◌+◌, ◌≤◌, ◌<◌, true, length};
 ghost use Rattle.std.proofs.lemmas.List.Edits.{sets};
-ghost use Rattle.ground.specs.Pick.{pick};
 ghost use Rattle.clocks.specs.Calls.{K};
 ghost use Rattle.apu.specs.Held.{Held, FloatsHeld};
-ghost use Rattle.channel_noise.specs.Reloads.{reload_list};
 ghost use Rattle.apu_run.specs.Working.{ran_of};
-ghost use Rattle.apu_run.specs.Parts.{handed_back, silent_of, behind, parts_of};
+ghost use Rattle.apu_run.specs.Parts.{silent_of, behind, parts_of};
 
 use crate::frame_settings::frame_settings_of;
 use crate::frame_step::{stand_still, step_frame};
@@ -25,33 +23,9 @@ pub struct Parts {
     pub at: usize,
 }
 
-fn hand_back(phases: Phases, converters: Converters, counter: f64, at: usize) -> Parts
-    ensures { result ≡ handed_back phases converters counter at }
-{
-    Parts {
-        phases,
-        converters,
-        counter,
-        at,
-    }
-}
-
-// The channels' clocks before the frame that is due, or those that are left where it does not come.
-fn before_frame(due: u32, left: u32) -> u32
-    ensures { result ≡ pick (leb due left) (due - 1) left }
-{
-    if due <= left {
-        if due == 0 { 0 } else { due - 1 }
-    } else {
-        left
-    }
-}
-
-// So many working clocks of a unit whose sample counter is ahead, at so many units: its channels have `waiting` clocks to come before them. `list` is that of
-// the noise reloads.
+// So many working clocks of a unit whose sample counter is ahead, at so many units: its channels have `waiting` clocks to come before them.
 fn sound_from(
     unit: Apu,
-    list: &[u16],
     ahead: u64,
     count: u32,
     waiting: u32,
@@ -60,14 +34,13 @@ fn sound_from(
 ) -> Parts
     requires held { Held unit }
     requires floats_held { FloatsHeld unit }
-    requires list_value { list.now ≡ reload_list }
     requires ahead_bound { ahead < K }
     requires count_bound { waiting + count ≤ 32767 }
     requires waiting_in_bounds { start + length (ran_of count (behind unit ahead waiting)).bytes ≤ length out.old }
     ensures value { result ≡ parts_of (ran_of count (behind unit ahead waiting)) start }
     ensures out_after { out.new ≡ sets out.old start (ran_of count (behind unit ahead waiting)).bytes }
 {
-    let settings = settings_of(unit, list);
+    let settings = settings_of(unit);
     let frame_settings = frame_settings_of(settings);
     let fast = fast_of(settings);
     let ram = settings.wave.buffer;
@@ -83,13 +56,18 @@ fn sound_from(
     let mut levels = no_levels();
     let mut known = 0u32;
     loop {
-        let clocks = pending + before_frame(due, left);
+        // up to the clock before the frame, or to the last one where none comes
+        let clocks = pending + (due - 1).min(left);
         let over = left < due;
         if over | (known <= clocks) {
             phases = phases.advance(settings, clocks);
             if over {
-                let still = stand_still(frame_settings, converters_of(unit), converters);
-                return hand_back(phases, still, counter_of(later(units, left)), at);
+                return Parts {
+                    phases,
+                    converters: stand_still(frame_settings, converters_of(unit), converters),
+                    counter: counter_of(later(units, left)),
+                    at,
+                };
             }
             levels = levels_of(frame_settings, phases, &ram);
             known = known_of(fast, settings, frame_settings, phases);
@@ -109,24 +87,15 @@ fn sound_from(
 }
 
 // So many working clocks, none of which moves the sequencer, with their frames' bytes from `start` on.
-pub fn sound(unit: Apu, list: &[u16], count: u32, out: &mut [u8], start: usize) -> Parts
+pub fn sound(unit: Apu, count: u32, out: &mut [u8], start: usize) -> Parts
     requires held { Held unit }
     requires floats_held { FloatsHeld unit }
-    requires list_value { list.now ≡ reload_list }
     requires count_bound { count ≤ 32767 }
     requires unit_in_bounds { start + length (ran_of count unit).bytes ≤ length out.old }
     ensures value { result ≡ parts_of (ran_of count unit) start }
     ensures out_after { out.new ≡ sets out.old start (ran_of count unit).bytes }
 {
-    sound_from(
-        unit,
-        list,
-        units_of(unit.sample_counter),
-        count,
-        0,
-        out,
-        start,
-    )
+    sound_from(unit, units_of(unit.sample_counter), count, 0, out, start)
 }
 
 // Whether all four channels are muted, as with power off.
@@ -142,11 +111,10 @@ pub fn silent(unit: Apu) -> bool
 
 // The same as `sound`, of a unit whose channels are all muted: every frame is silence, and the channels' clocks all wait to the end. (As a function of its own:
 // in one with `sound_from` the loop over frames takes a tenth longer.)
-pub fn rest(unit: Apu, list: &[u16], count: u32, out: &mut [u8], start: usize) -> Parts
+pub fn rest(unit: Apu, count: u32, out: &mut [u8], start: usize) -> Parts
     requires unit_value { silent_of unit ≡ true }
     requires held { Held unit }
     requires floats_held { FloatsHeld unit }
-    requires list_value { list.now ≡ reload_list }
     requires count_bound { count ≤ 32767 }
     requires unit_in_bounds { start + length (ran_of count unit).bytes ≤ length out.old }
     ensures value { result ≡ parts_of (ran_of count unit) start }
@@ -165,5 +133,5 @@ pub fn rest(unit: Apu, list: &[u16], count: u32, out: &mut [u8], start: usize) -
         waiting += due;
         due = until(units);
     }
-    sound_from(unit, list, units, left, waiting, out, at)
+    sound_from(unit, units, left, waiting, out, at)
 }

@@ -8,11 +8,13 @@ ghost use Rattle.apu_run.specs.FrameSettings.{FrameSettingsHeld, pulse_output, n
 ghost use Rattle.apu_run.specs.FrameSettings.{calm_by, pulse_calm, noise_calm, calm_of, known_of};
 ghost use Rattle.channel_noise.specs.Phase.{NoisePhaseHeld};
 ghost use Rattle.channel_pulse.specs.Phase.{PulsePhaseHeld};
+ghost use Rattle.channel_pulse.specs.Pulse as pulse;
 
 use crate::frame_settings::FrameSettings;
-use crate::phases::{Phases, Settings, smaller};
+use crate::phases::{Phases, Settings};
 use channel_noise::phase::NoisePhase;
 use channel_pulse::phase::PulsePhase;
+use channel_pulse::pulse_channel::PulseChannel;
 
 // Each channel's output by 15.
 #[derive(Clone, Copy)]
@@ -106,13 +108,13 @@ pub fn levels_of(t: FrameSettings, m: Phases, ram: &[u8]) -> Levels
     ensures { result ≡ levels_of t m ram.now }
 {
     let output1 = pulse_output(
-        t.pulse1_row,
-        t.pulse1_volume,
+        t.pulse1.row,
+        t.pulse1.volume,
         m.pulse1.sequencer_position as u32,
     );
     let output2 = pulse_output(
-        t.pulse2_row,
-        t.pulse2_volume,
+        t.pulse2.row,
+        t.pulse2.volume,
         m.pulse2.sequencer_position as u32,
     );
     let output3 = wave_output(t.wave_shift, m.wave.buffer_position, ram);
@@ -135,16 +137,16 @@ fn calm(same: bool, timer: u32, reload: u32) -> u32
 }
 
 // A pulse's: for longer than a run before the first trigger.
-fn pulse_calm(triggered: bool, row: u32, reload: u32, m: PulsePhase) -> u32
+fn pulse_calm(channel: PulseChannel, row: u32, m: PulsePhase) -> u32
+    requires held { pulse.Held channel }
     requires pulse_phase_held { PulsePhaseHeld m }
-    requires reload_bound { reload ≤ 65535 }
-    ensures { result ≡ pulse_calm triggered row reload m }
+    ensures { result ≡ pulse_calm channel.first_trigger row (pulse.reload_of channel) m }
 {
     let position = m.sequencer_position as u32;
     let next = pulse_output(row, 1, (position + 1) % 8);
     let now = pulse_output(row, 1, position);
-    let clocks = calm(next == now, m.frequency_timer, reload);
-    if triggered { clocks } else { 32767 }
+    let clocks = calm(next == now, m.frequency_timer, channel.reload() as u32);
+    if channel.first_trigger { clocks } else { 32767 }
 }
 
 // The noise's: a step takes its register's bit 1 to bit 0.
@@ -165,24 +167,11 @@ fn calm_of(settings: Settings, t: FrameSettings, m: Phases) -> u32
     requires phases_held { PhasesHeld m }
     ensures { result ≡ calm_of settings t m }
 {
-    let first = settings.pulse1;
-    let second = settings.pulse2;
-    let pulse1 = pulse_calm(
-        first.first_trigger,
-        t.pulse1_row,
-        first.reload() as u32,
-        m.pulse1,
-    );
-    let pulse2 = pulse_calm(
-        second.first_trigger,
-        t.pulse2_row,
-        second.reload() as u32,
-        m.pulse2,
-    );
+    let pulse1 = pulse_calm(settings.pulse1, t.pulse1.row, m.pulse1);
+    let pulse2 = pulse_calm(settings.pulse2, t.pulse2.row, m.pulse2);
+    let wave = m.wave.frequency_timer / 2;
     let noise = noise_calm(settings.noise_reload, m.noise);
-    let pulses = smaller(pulse1, pulse2);
-    let others = smaller(m.wave.frequency_timer / 2, noise);
-    smaller(pulses, others)
+    pulse1.min(pulse2).min(wave.min(noise))
 }
 
 // For how many clocks from a look on the levels are known, that of the look among them; of a fast run for none: there to ask costs more than it saves.

@@ -1,10 +1,9 @@
 // The unit in three parts: what a run leaves as it is, what moves with each clock, what moves with each frame. Small records go through a loop faster than
 // the unit.
-ghost use Rattle.std.specs.Prelude.{◌≡◌, ◌≤◌, ◌/◌};
+ghost use Rattle.std.specs.Prelude.{◌≡◌, ◌≤◌, ◌/◌, min};
 ghost use Rattle.ground.specs.Iterate.{iterate};
 ghost use Rattle.apu.specs.Held.{Held};
-ghost use Rattle.channel_noise.specs.Reloads.{reload_list};
-ghost use Rattle.apu_run.specs.Phases.{SettingsHeld, PhasesHeld, settings_of, phases_of, converters_of, least, fast_of, tones_after};
+ghost use Rattle.apu_run.specs.Phases.{SettingsHeld, PhasesHeld, settings_of, phases_of, converters_of, fast_of, tones_after};
 ghost use Rattle.apu_run.specs.Phases.{phases_clocked, group_with, put_back};
 
 use apu::Apu;
@@ -27,7 +26,7 @@ pub struct Settings {
     pub channels_control: u8,
     pub channels_selection: u8,
     pub power: bool,
-    // what the noise timer reloads to, read off the list once a run
+    // what the noise timer reloads to, read once a run
     pub noise_reload: u32,
 }
 
@@ -57,29 +56,19 @@ pub struct Converters {
     pub noise: Converter,
 }
 
-// `list` is that of the noise reloads, lent: laid out here it would be stored anew in each run.
-pub fn settings_of(unit: Apu, list: &[u16]) -> Settings
-    requires held { Held unit }
-    requires list_value { list.now ≡ reload_list }
+pub fn settings_of(unit: Apu) -> Settings
+    requires { Held unit }
     ensures { result ≡ settings_of unit }
 {
-    let pulse1 = unit.pulse1.channel;
-    let pulse2 = unit.pulse2.channel;
-    let wave = unit.wave.channel;
-    let noise = unit.noise.channel;
-    let ff22 = noise.read_noise_register();
-    let place = ff22 as usize;
-    let reload = list[place];
-    let noise_reload = reload as u32;
     Settings {
-        pulse1,
-        pulse2,
-        wave,
-        noise,
+        pulse1: unit.pulse1.channel,
+        pulse2: unit.pulse2.channel,
+        wave: unit.wave.channel,
+        noise: unit.noise.channel,
         channels_control: unit.channels_control,
         channels_selection: unit.channels_selection,
         power: unit.power,
-        noise_reload,
+        noise_reload: unit.noise.channel.get_frequency() as u32,
     }
 }
 
@@ -87,44 +76,30 @@ pub fn phases_of(unit: Apu) -> Phases
     requires { Held unit }
     ensures { result ≡ phases_of unit }
 {
-    let pulse1 = unit.pulse1.channel;
-    let pulse2 = unit.pulse2.channel;
-    let wave = unit.wave.channel;
-    let noise = unit.noise.channel;
     Phases {
-        pulse1: pulse1.phase(),
-        pulse2: pulse2.phase(),
-        wave: wave.phase(),
-        noise: noise.phase(),
+        pulse1: unit.pulse1.channel.phase(),
+        pulse2: unit.pulse2.channel.phase(),
+        wave: unit.wave.channel.phase(),
+        noise: unit.noise.channel.phase(),
     }
 }
 
 pub fn converters_of(unit: Apu) -> Converters
     ensures { result ≡ converters_of unit }
 {
-    let pulse1 = unit.pulse1.converter;
-    let pulse2 = unit.pulse2.converter;
-    let wave = unit.wave.converter;
-    let noise = unit.noise.converter;
     Converters {
-        pulse1,
-        pulse2,
-        wave,
-        noise,
+        pulse1: unit.pulse1.converter,
+        pulse2: unit.pulse2.converter,
+        wave: unit.wave.converter,
+        noise: unit.noise.converter,
     }
-}
-
-pub fn smaller(a: u32, b: u32) -> u32
-    ensures { result ≡ least a b }
-{
-    if a < b { a } else { b }
 }
 
 // So many clocks at least are between two steps of each, by what their timers reload to; the wave's goes two a clock.
 fn near(reload1: u32, reload2: u32, reload3: u32) -> u32
-    ensures { result ≡ least (least reload1 reload2) (reload3 / 2) }
+    ensures { result ≡ min (min reload1 reload2) (reload3 / 2) }
 {
-    smaller(smaller(reload1, reload2), reload3 / 2)
+    reload1.min(reload2).min(reload3 / 2)
 }
 
 // Whether a channel may step in every frame, which come 23 clocks apart or more.
@@ -132,15 +107,12 @@ pub fn fast_of(settings: Settings) -> bool
     requires { SettingsHeld settings }
     ensures { result ≡ fast_of settings }
 {
-    let first = settings.pulse1;
-    let second = settings.pulse2;
-    let third = settings.wave;
     let tones = near(
-        first.reload() as u32,
-        second.reload() as u32,
-        third.reload() as u32,
+        settings.pulse1.reload() as u32,
+        settings.pulse2.reload() as u32,
+        settings.wave.reload() as u32,
     );
-    smaller(tones, settings.noise_reload) < 23
+    tones.min(settings.noise_reload) < 23
 }
 
 // The pulses and the wave after so many working clocks with power on. Where none steps twice they go without a jump.
@@ -150,26 +122,23 @@ fn advance_tones(phases: Phases, settings: Settings, n: u32) -> TonePhases
     requires n_bound { n ≤ 32768 }
     ensures { result ≡ tones_after settings n phases }
 {
-    let pulse1 = phases.pulse1;
-    let pulse2 = phases.pulse2;
-    let wave = phases.wave;
     let first = settings.pulse1;
     let second = settings.pulse2;
-    let third = settings.wave;
     let reload1 = first.reload() as u32;
     let reload2 = second.reload() as u32;
-    let reload3 = third.reload() as u32;
+    let reload3 = settings.wave.reload() as u32;
     if (1 <= n) & (n <= near(reload1, reload2, reload3)) {
-        return TonePhases {
-            pulse1: pulse1.advance_near(first.first_trigger, reload1, n),
-            pulse2: pulse2.advance_near(second.first_trigger, reload2, n),
-            wave: wave.advance_near(reload3, n),
-        };
-    }
-    TonePhases {
-        pulse1: pulse1.advance(first.first_trigger, reload1, n),
-        pulse2: pulse2.advance(second.first_trigger, reload2, n),
-        wave: wave.advance(reload3, n),
+        TonePhases {
+            pulse1: phases.pulse1.advance_near(first.first_trigger, reload1, n),
+            pulse2: phases.pulse2.advance_near(second.first_trigger, reload2, n),
+            wave: phases.wave.advance_near(reload3, n),
+        }
+    } else {
+        TonePhases {
+            pulse1: phases.pulse1.advance(first.first_trigger, reload1, n),
+            pulse2: phases.pulse2.advance(second.first_trigger, reload2, n),
+            wave: phases.wave.advance(reload3, n),
+        }
     }
 }
 
@@ -181,22 +150,17 @@ impl Phases {
         requires n_bound { n ≤ 32768 }
         ensures { result ≡ iterate n (phases_clocked settings) self }
     {
-        if settings.power {
-            let tones = advance_tones(self, settings, n);
-            let noise = self.noise;
-            let fourth = settings.noise;
-            let phase = noise.advance(fourth.step_mode_7_bits, settings.noise_reload, n);
-            let pulse1 = tones.pulse1;
-            let pulse2 = tones.pulse2;
-            let wave = tones.wave;
-            return Phases {
-                pulse1,
-                pulse2,
-                wave,
-                noise: phase,
-            };
+        if !settings.power {
+            return self;
         }
-        self
+        let tones = advance_tones(self, settings, n);
+        let narrow = settings.noise.step_mode_7_bits;
+        Phases {
+            pulse1: tones.pulse1,
+            pulse2: tones.pulse2,
+            wave: tones.wave,
+            noise: self.noise.advance(narrow, settings.noise_reload, n),
+        }
     }
 }
 

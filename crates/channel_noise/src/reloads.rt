@@ -4,7 +4,7 @@ ghost use Rattle.channel_noise.specs.Noise.{divisor_of, reload_at};
 ghost use Rattle.channel_noise.specs.Reloads.{reload_list};
 
 // Each number with its byte beside it. From one step of the noise to the next it takes one working clock more than the number.
-const RELOADS: [u16; 256] = [
+static RELOADS: [u16; 256] = [
     2, // 00
     4, // 01
     8, // 02
@@ -263,7 +263,7 @@ const RELOADS: [u16; 256] = [
     0, // FF
 ];
 
-// The whole list. (A constant is laid out in memory wherever it is read: who reads often does it once and lends it.)
+// The whole list.
 pub fn reloads() -> [u16; 256]
     ensures { result ≡ reload_list }
 {
@@ -274,8 +274,7 @@ pub fn reloads() -> [u16; 256]
 pub fn reload_at(ff22: u8) -> u16
     ensures { result ≡ reload_at ff22 }
 {
-    let list = reloads();
-    list[ff22 as usize]
+    RELOADS[ff22 as usize]
 }
 
 // The divisor shifted left; what runs past the sixteenth bit is lost.

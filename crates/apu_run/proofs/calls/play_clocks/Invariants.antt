@@ -4,7 +4,7 @@ use Rattle.apu_run.proofs.Owing.{Owing}
 use Rattle.apu_run.proofs.calls.play_clocks.Given as goal
 
 abbrev pub invariant-loop-i : goal.invariant-loop-i
-invariant-loop-i l = Owing l.double l.divider l.from l.to (record { apu = l.initial.apu; at = l.initial.place }) l.initial.out l.out l.apu l.place l.owed l.i
+invariant-loop-i l = Owing l.double l.divider l.from l.to l.initial.q l.initial.out l.out l.q.apu l.q.at l.owed l.i
 
 abbrev pub decreases-loop-i : goal.decreases-loop-i
 decreases-loop-i l = l.to - l.i

@@ -1,40 +1,8 @@
 -- Silent or not, what was moved is put back, and that is the unit after the run. Assumes nothing.
-use mathlib.Core.Path.{◌∙◌, sym}
-use Rattle.channel_noise.proofs.Table.{reloads_length}
+use mathlib.Core.Path.{◌∙◌}
 use Rattle.apu_run.proofs.Settling.{Settled, settled_held, settled_long, settled_play}
 use Rattle.apu_run.proofs.calls.settle.Goals as goal
 use Rattle.apu_run.proofs.calls.settle.Goals.{then-silent, else-silent}
-
-pub slice_bounds-rest-end : goal.slice_bounds-rest-end
-slice_bounds-rest-end c =
-    let reloads = c.reloads-list in
-    rw reloads.ensures (sym reloads_length)
-
-pub rest-ran-requires : goal.rest-ran-requires
-rest-ran-requires c =
-    let if1 = c.if-silent in
-    let silent = c.silent in
-    let reloads = c.reloads-list in
-    let pre = c.requires in
-    record {
-      unit_value = sym silent.ensures ∙ if1.true;
-      held = pre.held;
-      floats_held = pre.floats_held;
-      list_value = reloads.ensures;
-      count_bound = pre.owed_bound;
-      unit_in_bounds = pre.apu_in_bounds;
-    }
-
-pub slice_bounds-sound-end : goal.slice_bounds-sound-end
-slice_bounds-sound-end c =
-    let reloads = c.reloads-list in
-    rw reloads.ensures (sym reloads_length)
-
-pub sound-ran-requires : goal.sound-ran-requires
-sound-ran-requires c =
-    let reloads = c.reloads-list in
-    let pre = c.requires in
-    record { held = pre.held; floats_held = pre.floats_held; list_value = reloads.ensures; count_bound = pre.owed_bound; unit_in_bounds = pre.apu_in_bounds }
 
 pub put_back-apu-requires : goal.put_back-apu-requires
 put_back-apu-requires c =

@@ -1,5 +1,11 @@
--- The choice is the definition's. Assumes nothing.
+-- Each way out is the case that the test picks. Assumes nothing.
+use Rattle.ground.specs.Pick.{pick}
 use Rattle.apu_run.proofs.frame_step.stood.Goals as goal
 
-pub returns : goal.returns
-returns c = rw c.choose.ensures
+pub returns-then-muted : goal.returns-then-muted
+unfolding pick
+returns-then-muted c = rw c.if-muted.true
+
+pub returns-else-muted : goal.returns-else-muted
+unfolding pick
+returns-else-muted c = rw c.if-muted.false

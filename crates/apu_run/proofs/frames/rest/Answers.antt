@@ -68,11 +68,9 @@ pub sound_from-requires : goal.sound_from-requires
 sound_from-requires c =
     let loop = c.loop-due in
     let inv = loop.invariant in
-    let pre = c.requires in
     record {
       held = inv.held;
       floats_held = inv.floats;
-      list_value = pre.list_value;
       ahead_bound = inv.below;
       count_bound = inv.few;
       waiting_in_bounds = last_room inv;

@@ -17,7 +17,6 @@ sound_from-requires c =
     record {
       held = pre.held;
       floats_held = pre.floats_held;
-      list_value = pre.list_value;
       ahead_bound = rw units_of.ensures kept;
       count_bound = omega (arith, pre.count_bound);
       waiting_in_bounds = rw same pre.unit_in_bounds;
@@ -26,7 +25,6 @@ sound_from-requires c =
 pub returns : goal.returns
 returns c =
     let sound-from = c.sound_from in
-    let units_of = c.units_of in
     let unit = c.args.unit in
-    let same = ap (λ (x : ℕ). behind unit x 0) units_of.ensures ∙ behind_none unit c.requires.floats_held in
+    let same = ap (λ (x : ℕ). behind unit x 0) c.units_of.ensures ∙ behind_none unit c.requires.floats_held in
     record { value = rw same at sound-from.ensures.value; out_after = rw same at sound-from.ensures.out_after }

@@ -16,11 +16,6 @@ use Rattle.apu_run.proofs.Running.{Looked, moved-of, moved_held, looked_anew, lo
 use Rattle.apu_run.proofs.frames.sound_from.Goals as goal
 use Rattle.apu_run.proofs.frames.sound_from.Goals.{then-over-known+else-over, else-over-known}
 
-pub settings_of-settings-requires : goal.settings_of-settings-requires
-settings_of-settings-requires c =
-    let pre = c.requires in
-    record { held = pre.held; list_value = pre.list_value }
-
 pub fast_of-fast-requires : goal.fast_of-fast-requires
 fast_of-fast-requires c =
     let settings-of = c.settings_of-settings in
@@ -53,18 +48,21 @@ loop-known-init c =
     (running_first (settings_held u pre.held) refl (phases_held u pre.held) (converters_held u pre.floats_held)
     pre.ahead_bound until.ensures pre.count_bound room)
 
+pub overflow_sub-due : goal.overflow_sub-due
+overflow_sub-due c = due_some c.loop-known.invariant
+
 pub overflow_add-clocks : goal.overflow_add-clocks
 overflow_add-clocks c =
     let loop = c.loop-known in
-    let before-frame = c.before_frame in
-    omega (arith, few_clocks loop.invariant before-frame.ensures)
+    let before = c.min.ensures in
+    omega (arith, few_clocks loop.invariant before)
 
 -- ---- the channels looked at anew
 pub advance-phases-requires : goal.advance-phases-requires
 advance-phases-requires c =
-    let before-frame = c.before_frame in
+    let before = c.min.ensures in
     let loop = c.loop-known in
-    record { phases_held = loop.invariant.phases; settings_held = loop.invariant.held; n_bound = omega (arith, few_clocks loop.invariant before-frame.ensures) }
+    record { phases_held = loop.invariant.phases; settings_held = loop.invariant.held; n_bound = omega (arith, few_clocks loop.invariant before) }
 
 pub later-requires : goal.later-requires
 later-requires c =
@@ -86,25 +84,24 @@ pub returns-then-over : goal.returns-then-over
 returns-then-over c =
     let counter-of = c.counter_of in
     let later = c.later in
-    let stand-still = c.stand_still-still in
+    let stand-still = c.stand_still in
     let converters-of2 = c.converters_of in
     let if2 = c.if-over in
     let advance = c.advance-phases in
-    let before-frame = c.before_frame in
+    let before = c.min.ensures in
     let loop = c.loop-known in
     let converters-of = c.converters_of-converters in
     let phases-of = c.phases_of-phases in
     let frame-settings-of = c.frame_settings_of-frame_settings in
     let settings-of = c.settings_of-settings in
     let a = c.args in
-    let hand-back = c.hand_back in
-    let moved = moved-of loop.invariant before-frame.ensures advance.ensures in
+    let moved = moved-of loop.invariant before advance.ensures in
     let same = converters-of2.ensures ∙ sym converters-of.ensures in
     let still = stand-still.ensures ∙ ap (λ (k : Converters). stood_still frame-settings-of.result k loop.converters) same in
     let last = running_last moved if2.true still later.ensures.value counter-of.ensures in
     let all = whole_ran loop.invariant a.unit settings-of.ensures phases-of.ensures converters-of.ensures in
     record {
-      value = hand-back.ensures ∙ last.0 ∙ ap (λ (t : Take). parts_of t a.start) all;
+      value = last.0 ∙ ap (λ (t : Take). parts_of t a.start) all;
       out_after = last.1 ∙ ap (λ (t : Take). sets a.out.now a.start t.bytes) all;
     }
 
@@ -116,17 +113,17 @@ slice_bounds-levels_of-end c =
 pub levels_of-levels-requires : goal.levels_of-levels-requires
 levels_of-levels-requires c =
     let advance = c.advance-phases in
-    let before-frame = c.before_frame in
+    let before = c.min.ensures in
     let loop = c.loop-known in
-    let moved = moved-of loop.invariant before-frame.ensures advance.ensures in
+    let moved = moved-of loop.invariant before advance.ensures in
     record { frame_settings_held = frame_settings_held loop.invariant; phases_held = moved_held moved; ram_len = loop.invariant.held.wave.buffer }
 
 pub known_of-known-requires : goal.known_of-known-requires
 known_of-known-requires c =
     let advance = c.advance-phases in
-    let before-frame = c.before_frame in
+    let before = c.min.ensures in
     let loop = c.loop-known in
-    let moved = moved-of loop.invariant before-frame.ensures advance.ensures in
+    let moved = moved-of loop.invariant before advance.ensures in
     record { settings_held = loop.invariant.held; phases_held = moved_held moved }
 
 -- ---- a frame
@@ -134,16 +131,16 @@ pub put_mix-requires : goal.put_mix-requires
 put_mix-requires c =
     let step-frame = c.step_frame-step in
     let if1 = c.if-over-known in
-    let before-frame = c.before_frame in
+    let before = c.min.ensures in
     let loop = c.loop-known in
     let fast-of = c.fast_of-fast in
     let looked : Looked _ _ if1.phases if1.pending if1.levels if1.known =
     elim if1.branch [
       | then-over-known+else-over w ↦
-          looked_anew fast-of.result (moved-of loop.invariant before-frame.ensures w.advance-phases.ensures) (le-ltb _ _ w.if-over.false)
+          looked_anew fast-of.result (moved-of loop.invariant before w.advance-phases.ensures) (le-ltb _ _ w.if-over.false)
           w.levels_of-levels.ensures w.known_of-known.ensures w.phases-is w.pending-is w.levels-is w.known-is
       | else-over-known w ↦
-          looked_before loop.invariant before-frame.ensures w.if-over-known.false w.phases-is w.pending-is w.levels-is w.known-is
+          looked_before loop.invariant before w.if-over-known.false w.phases-is w.pending-is w.levels-is w.known-is
     ] in
     let framed = framed_of looked step-frame.ensures in
     record { frame_length_in_bounds = framed_room framed; known = framed_known framed }
@@ -152,17 +149,17 @@ pub overflow_add-at : goal.overflow_add-at
 overflow_add-at c =
     let step-frame = c.step_frame-step in
     let if1 = c.if-over-known in
-    let before-frame = c.before_frame in
+    let before = c.min.ensures in
     let loop = c.loop-known in
     let fast-of = c.fast_of-fast in
     let good = c.well_formed in
     let looked : Looked _ _ if1.phases if1.pending if1.levels if1.known =
     elim if1.branch [
       | then-over-known+else-over w ↦
-          looked_anew fast-of.result (moved-of loop.invariant before-frame.ensures w.advance-phases.ensures) (le-ltb _ _ w.if-over.false)
+          looked_anew fast-of.result (moved-of loop.invariant before w.advance-phases.ensures) (le-ltb _ _ w.if-over.false)
           w.levels_of-levels.ensures w.known_of-known.ensures w.phases-is w.pending-is w.levels-is w.known-is
       | else-over-known w ↦
-          looked_before loop.invariant before-frame.ensures w.if-over-known.false w.phases-is w.pending-is w.levels-is w.known-is
+          looked_before loop.invariant before w.if-over-known.false w.phases-is w.pending-is w.levels-is w.known-is
     ] in
     let framed = framed_of looked step-frame.ensures in
     omega (arith, framed_room framed, out_long loop.invariant, good)
@@ -175,32 +172,32 @@ past_frame-units-requires c =
 pub overflow_sub-left : goal.overflow_sub-left
 overflow_sub-left c =
     let if1 = c.if-over-known in
-    let before-frame = c.before_frame in
+    let before = c.min.ensures in
     let loop = c.loop-known in
     let fast-of = c.fast_of-fast in
     let looked : Looked _ _ if1.phases if1.pending if1.levels if1.known =
     elim if1.branch [
       | then-over-known+else-over w ↦
-          looked_anew fast-of.result (moved-of loop.invariant before-frame.ensures w.advance-phases.ensures) (le-ltb _ _ w.if-over.false)
+          looked_anew fast-of.result (moved-of loop.invariant before w.advance-phases.ensures) (le-ltb _ _ w.if-over.false)
           w.levels_of-levels.ensures w.known_of-known.ensures w.phases-is w.pending-is w.levels-is w.known-is
       | else-over-known w ↦
-          looked_before loop.invariant before-frame.ensures w.if-over-known.false w.phases-is w.pending-is w.levels-is w.known-is
+          looked_before loop.invariant before w.if-over-known.false w.phases-is w.pending-is w.levels-is w.known-is
     ] in
     looked.due
 
 pub overflow_add-pending : goal.overflow_add-pending
 overflow_add-pending c =
     let if1 = c.if-over-known in
-    let before-frame = c.before_frame in
+    let before = c.min.ensures in
     let loop = c.loop-known in
     let fast-of = c.fast_of-fast in
     let looked : Looked _ _ if1.phases if1.pending if1.levels if1.known =
     elim if1.branch [
       | then-over-known+else-over w ↦
-          looked_anew fast-of.result (moved-of loop.invariant before-frame.ensures w.advance-phases.ensures) (le-ltb _ _ w.if-over.false)
+          looked_anew fast-of.result (moved-of loop.invariant before w.advance-phases.ensures) (le-ltb _ _ w.if-over.false)
           w.levels_of-levels.ensures w.known_of-known.ensures w.phases-is w.pending-is w.levels-is w.known-is
       | else-over-known w ↦
-          looked_before loop.invariant before-frame.ensures w.if-over-known.false w.phases-is w.pending-is w.levels-is w.known-is
+          looked_before loop.invariant before w.if-over-known.false w.phases-is w.pending-is w.levels-is w.known-is
     ] in
     omega (arith, looked.few, few_clocks loop.invariant refl)
 
@@ -213,16 +210,16 @@ until-due-requires-in-loop-known c =
 pub loop-known-smaller : goal.loop-known-smaller
 loop-known-smaller c =
     let if1 = c.if-over-known in
-    let before-frame = c.before_frame in
+    let before = c.min.ensures in
     let loop = c.loop-known in
     let fast-of = c.fast_of-fast in
     let looked : Looked _ _ if1.phases if1.pending if1.levels if1.known =
     elim if1.branch [
       | then-over-known+else-over w ↦
-          looked_anew fast-of.result (moved-of loop.invariant before-frame.ensures w.advance-phases.ensures) (le-ltb _ _ w.if-over.false)
+          looked_anew fast-of.result (moved-of loop.invariant before w.advance-phases.ensures) (le-ltb _ _ w.if-over.false)
           w.levels_of-levels.ensures w.known_of-known.ensures w.phases-is w.pending-is w.levels-is w.known-is
       | else-over-known w ↦
-          looked_before loop.invariant before-frame.ensures w.if-over-known.false w.phases-is w.pending-is w.levels-is w.known-is
+          looked_before loop.invariant before w.if-over-known.false w.phases-is w.pending-is w.levels-is w.known-is
     ] in
     omega (arith, due_some loop.invariant, looked.due)
 
@@ -232,16 +229,16 @@ loop-known-preserved c =
     let put-mix = c.put_mix in
     let step-frame = c.step_frame-step in
     let if1 = c.if-over-known in
-    let before-frame = c.before_frame in
+    let before = c.min.ensures in
     let loop = c.loop-known in
     let fast-of = c.fast_of-fast in
     let until2 = c.until-due-in-loop-known in
     let looked : Looked _ _ if1.phases if1.pending if1.levels if1.known =
     elim if1.branch [
       | then-over-known+else-over w ↦
-          looked_anew fast-of.result (moved-of loop.invariant before-frame.ensures w.advance-phases.ensures) (le-ltb _ _ w.if-over.false)
+          looked_anew fast-of.result (moved-of loop.invariant before w.advance-phases.ensures) (le-ltb _ _ w.if-over.false)
           w.levels_of-levels.ensures w.known_of-known.ensures w.phases-is w.pending-is w.levels-is w.known-is
       | else-over-known w ↦
-          looked_before loop.invariant before-frame.ensures w.if-over-known.false w.phases-is w.pending-is w.levels-is w.known-is
+          looked_before loop.invariant before w.if-over-known.false w.phases-is w.pending-is w.levels-is w.known-is
     ] in
     running_on looked step-frame.ensures put-mix.ensures past-frame.ensures until2.ensures

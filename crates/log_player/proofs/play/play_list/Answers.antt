@@ -8,7 +8,6 @@ use lib.IntN.{pos}
 use mir.Syntax.{w8}
 use mir.Val.{to_z, of_z}
 use Rattle.clocks.proofs.Positions.{read_back, next_read}
-use Rattle.channel_noise.proofs.Table.{reloads_length}
 use Rattle.apu.specs.With.{with_position}
 use Rattle.apu_clock.specs.Sequencer.{advanced}
 use Rattle.apu_clock.proofs.Idling.{idles}
@@ -88,11 +87,6 @@ loop-apu-preserved-then-waits c =
     waited loop.invariant reckon.ensures.reckons w (ap (with_position b) (stored ∙ ap pos next))
 
 -- ---- what is owed is played
-pub slice_bounds-rest-end : goal.slice_bounds-rest-end
-slice_bounds-rest-end c =
-    let reloads = c.reloads-list in
-    rw reloads.ensures (sym reloads_length)
-
 pub rest-ran-requires : goal.rest-ran-requires
 rest-ran-requires c =
     let if3 = c.if-silent in
@@ -101,20 +95,13 @@ rest-ran-requires c =
     let loop = c.loop-apu in
     let k = reckon.ensures.reckons in
     let ready = b_ready loop.invariant k in
-    let reloads = c.reloads-list in
     record {
       unit_value = sym silent.ensures ∙ if3.true;
       held = ready.held;
       floats_held = ready.floats;
-      list_value = reloads.ensures;
       count_bound = k.few;
       unit_in_bounds = paid_room loop.invariant k;
     }
-
-pub slice_bounds-sound-end : goal.slice_bounds-sound-end
-slice_bounds-sound-end c =
-    let reloads = c.reloads-list in
-    rw reloads.ensures (sym reloads_length)
 
 pub sound-ran-requires : goal.sound-ran-requires
 sound-ran-requires c =
@@ -122,8 +109,7 @@ sound-ran-requires c =
     let loop = c.loop-apu in
     let k = reckon.ensures.reckons in
     let ready = b_ready loop.invariant k in
-    let reloads = c.reloads-list in
-    record { held = ready.held; floats_held = ready.floats; list_value = reloads.ensures; count_bound = k.few; unit_in_bounds = paid_room loop.invariant k }
+    record { held = ready.held; floats_held = ready.floats; count_bound = k.few; unit_in_bounds = paid_room loop.invariant k }
 
 pub put_back-apu-requires : goal.put_back-apu-requires
 put_back-apu-requires c =
