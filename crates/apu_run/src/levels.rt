@@ -1,5 +1,5 @@
 // What goes into the four converters: it stays as it is while no output changes, so that most frames need not look at the channels at all.
-ghost use Rattle.std.specs.Prelude.{◌≡◌, ◌≤◌, pos, length};
+ghost use Rattle.std.specs.Prelude.{◌≡◌, ◌≤◌, pos};
 ghost use Rattle.std.specs.Float.{binary32};
 ghost use Rattle.std.specs.Float.Ieee.{of_int};
 ghost use Rattle.frame.specs.Converter.{in_of};
@@ -64,9 +64,8 @@ fn pulse_output(row: u32, volume: u32, position: u32) -> u32
 }
 
 // The nibble at a position of wave RAM.
-fn nibble_at(position: u32, ram: &[u8]) -> u8
-    requires position_bound { position ≤ 31 }
-    requires ram_len { length ram.now ≡ 16 }
+fn nibble_at(position: u32, ram: &[u8; 16]) -> u8
+    requires { position ≤ 31 }
     ensures value { result ≡ nibble_at position ram.now }
     ensures upper_bound { result ≤ 15 }
 {
@@ -80,10 +79,9 @@ fn nibble_at(position: u32, ram: &[u8]) -> u8
 }
 
 // The wave's output.
-fn wave_output(shift: u32, position: u32, ram: &[u8]) -> u32
+fn wave_output(shift: u32, position: u32, ram: &[u8; 16]) -> u32
     requires shift_bound { shift ≤ 4 }
     requires position_bound { position ≤ 31 }
-    requires ram_len { length ram.now ≡ 16 }
     ensures value { result ≡ wave_output shift position ram.now }
     ensures upper_bound { result ≤ 15 }
 {
@@ -101,10 +99,9 @@ fn noise_output(volume: u32, register: u32) -> u32
 }
 
 // The levels of the four. Wave RAM is lent: copied it would cost as much as the four.
-pub fn levels_of(t: FrameSettings, m: Phases, ram: &[u8]) -> Levels
+pub fn levels_of(t: FrameSettings, m: Phases, ram: &[u8; 16]) -> Levels
     requires frame_settings_held { FrameSettingsHeld t }
     requires phases_held { PhasesHeld m }
-    requires ram_len { length ram.now ≡ 16 }
     ensures { result ≡ levels_of t m ram.now }
 {
     let output1 = pulse_output(

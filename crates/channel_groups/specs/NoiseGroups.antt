@@ -58,10 +58,7 @@ envelope_written g value = with_channel g (channel.enveloped g.channel value)
 unfoldable pub noise_written : NoiseGroup → ℕ → NoiseGroup
 noise_written g value = with_channel g (channel.written g.channel value)
 
--- a write of FF23, in its two steps; the noise has no frequency
-abbrev pub readied : NoiseGroup → Bool → ℕ → NoiseGroup
-readied = any.readied kind
-
+-- a write of FF23: its trigger, and all of it; the noise has no frequency
 abbrev pub triggered : NoiseGroup → Bool → NoiseGroup
 triggered g even = any.triggered kind g (record {}) even
 

@@ -71,10 +71,7 @@ envelope_written g value = with_channel g (channel.enveloped g.channel value)
 unfoldable pub tuned : PulseGroup → ℕ → PulseGroup
 tuned g value = with_channel g (with_frequency g.channel (low_written g.channel.frequency value))
 
--- a write of FFx4, in its steps
-abbrev pub readied : PulseGroup → Bool → ℕ → PulseGroup
-readied = any.readied kind
-
+-- a write of FFx4: its trigger, and all of it
 abbrev pub triggered : PulseGroup → Bool → PulseGroup
 triggered g even = any.triggered kind g (record {}) even
 

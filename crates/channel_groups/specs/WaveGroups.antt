@@ -65,10 +65,7 @@ volume_written g value = with_channel g (channel.volume_written g.channel (value
 unfoldable pub tuned : WaveGroup → ℕ → WaveGroup
 tuned g value = with_channel g (with_frequency g.channel (low_written g.channel.frequency value))
 
--- a write of FF1E, in its steps
-abbrev pub readied : WaveGroup → Bool → ℕ → WaveGroup
-readied = any.readied kind
-
+-- a write of FF1E: its trigger, and all of it
 abbrev pub triggered : WaveGroup → Bool → Bool → WaveGroup
 triggered = any.triggered kind
 

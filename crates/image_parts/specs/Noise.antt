@@ -4,7 +4,7 @@ use Rattle.image_fields.specs.Bytes.{bit_of, is_one, is_flag, be2, two_at, all_o
 use Rattle.channel_noise.specs.declared.noise_channel.NoiseChannel.{NoiseChannel}
 use Rattle.channel_groups.specs.NoiseGroups.{NoiseGroup}
 use Rattle.image_parts.specs.Parts.{envelope_bytes, envelope_at, envelope_fits}
-use Rattle.image_parts.specs.Groups.{Layout, group_bytes, group_at, group_tests, group_fits}
+use Rattle.image_parts.specs.Groups.{Layout, group_bytes, group_at, group_fits}
 
 -- ---- the noise channel, 15 bytes
 unfoldable pub noise_channel_bytes : NoiseChannel → List ℕ
@@ -43,9 +43,6 @@ noise_group_bytes = group_bytes noise_layout
 
 abbrev pub noise_group_at : List ℕ → ℕ → NoiseGroup
 noise_group_at = group_at noise_layout
-
-abbrev pub noise_group_tests : List ℕ → ℕ → List Bool
-noise_group_tests = group_tests noise_layout 64
 
 abbrev pub noise_group_fits : List ℕ → ℕ → Bool
 noise_group_fits = group_fits noise_layout 64

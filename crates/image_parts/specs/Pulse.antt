@@ -5,7 +5,7 @@ use Rattle.channel_pulse.specs.declared.sweep.Sweep.{Sweep}
 use Rattle.channel_pulse.specs.declared.pulse_channel.PulseChannel.{PulseChannel}
 use Rattle.channel_groups.specs.PulseGroups.{PulseGroup}
 use Rattle.image_parts.specs.Parts.{envelope_bytes, envelope_at, envelope_fits}
-use Rattle.image_parts.specs.Groups.{Layout, group_bytes, group_at, group_tests, group_fits}
+use Rattle.image_parts.specs.Groups.{Layout, group_bytes, group_at, group_fits}
 
 -- ---- a sweep, 8 bytes
 unfoldable pub sweep_bytes : Sweep → List ℕ
@@ -72,9 +72,6 @@ pulse_group_bytes = group_bytes pulse_layout
 
 abbrev pub pulse_group_at : List ℕ → ℕ → PulseGroup
 pulse_group_at = group_at pulse_layout
-
-abbrev pub pulse_group_tests : List ℕ → ℕ → List Bool
-pulse_group_tests = group_tests pulse_layout 64
 
 abbrev pub pulse_group_fits : List ℕ → ℕ → Bool
 pulse_group_fits = group_fits pulse_layout 64

@@ -5,7 +5,7 @@ use Rattle.image_fields.specs.Bytes.{bit_of, is_one, is_flag, be2, two_at, all_o
 use Rattle.image_fields.specs.Codes.{shift_fits}
 use Rattle.channel_wave.specs.declared.wave_channel.WaveChannel.{WaveChannel}
 use Rattle.channel_groups.specs.WaveGroups.{WaveGroup}
-use Rattle.image_parts.specs.Groups.{Layout, group_bytes, group_at, group_tests, group_fits}
+use Rattle.image_parts.specs.Groups.{Layout, group_bytes, group_at, group_fits}
 
 -- ---- wave RAM, 16 bytes
 unfoldable pub ram_bytes : List ℕ → List ℕ
@@ -52,9 +52,6 @@ wave_group_bytes = group_bytes wave_layout
 
 abbrev pub wave_group_at : List ℕ → ℕ → WaveGroup
 wave_group_at = group_at wave_layout
-
-abbrev pub wave_group_tests : List ℕ → ℕ → List Bool
-wave_group_tests = group_tests wave_layout 256
 
 abbrev pub wave_group_fits : List ℕ → ℕ → Bool
 wave_group_fits = group_fits wave_layout 256
