@@ -26,8 +26,8 @@ def exported(folder):
     """The functions that a library's files mark pub: file, name with its type, and text."""
     for file in sorted((folder / "src").glob("*.rt")):
         kind = ""
-        for text in re.split(r"(?m)^(?=impl |\}|    pub |pub )", file.read_text()):
-            kind = (re.match(r"impl (\w+)", text) or [None, "" if text.startswith(("}", "pub ")) else kind])[1]
+        for text in re.split(r"(?m)^(?=impl[ <]|\}|    pub |pub )", file.read_text()):
+            kind = (re.match(r"impl(?:<[^>]*>)? (\w+)", text) or [None, "" if text.startswith(("}", "pub ")) else kind])[1]
             name = re.match(r'\s*pub (?:extern "C" )?fn (\w+)', text)
             if name:
                 yield file, f"{kind}::{name[1]}" if kind else name[1], text
