@@ -1,6 +1,7 @@
 // A pulse with its length record and its converter: what is its own.
 ghost use Rattle.std.specs.Prelude.{◌≡◌, ◌≤◌};
-ghost use Rattle.channel_groups.specs.PulseGroups.{kind, Held, written, byte_of, sounded, sweep_written, length_written, envelope_written, tuned, sweep_clocked, envelope_clocked, rewound};
+ghost use Rattle.channel_groups.specs.PulseGroups.{kind, Held, written, byte_of, sounded, sweep_written, length_written, envelope_written, tuned};
+ghost use Rattle.channel_groups.specs.PulseGroups.{sweep_clocked, envelope_clocked, rewound};
 ghost use Rattle.channel_groups.specs.Keeps.{pulse_keeps};
 
 use crate::bits::{control_byte, high_written, low_written};

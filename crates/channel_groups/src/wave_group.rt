@@ -1,6 +1,7 @@
 // The wave with its length record and its converter: what is its own.
 ghost use Rattle.std.specs.Prelude.{◌≡◌};
-ghost use Rattle.channel_groups.specs.WaveGroups.{kind, Held, written, byte_of, sounded, dac_written, length_written, volume_written, tuned, ram_written, rewound};
+ghost use Rattle.channel_groups.specs.WaveGroups.{kind, Held, written, byte_of, sounded, dac_written, length_written, volume_written};
+ghost use Rattle.channel_groups.specs.WaveGroups.{tuned, ram_written, rewound};
 ghost use Rattle.channel_groups.specs.Keeps.{wave_keeps};
 
 use crate::bits::{control_byte, high_written, low_written};
