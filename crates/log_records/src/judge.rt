@@ -203,7 +203,8 @@ fn judge_pcm(body: &[u8]) -> Result<Record, WrongRecord>
     }
 }
 
-// What a body says in a log of a version, by its kind.
+// What a body says in a log of a version, by its kind. (Called, and not compiled into its callers, a scan of writes took half as long again.)
+#[inline]
 pub fn judge(version: u8, body: &[u8]) -> Result<Record, WrongRecord>
     ensures { result ≡ judge_of version body.now }
 {
