@@ -8,7 +8,8 @@ use Rattle.ground.specs.Pick.{pick}
 use Rattle.clocks.specs.declared.meter.Meter.{Meter}
 use Rattle.log_records.specs.Records.{records_of, listed}
 use Rattle.log_scan.specs.Scan.{wrong_in, summed}
-use Rattle.log_scan.specs.Answers.{LogAnswer, refusal_of, returned_of, is_done, too_long, bad_start, refused_for, returned_for, refused_within, is_place, place_in}
+use Rattle.log_scan.specs.Answers.{LogAnswer, refusal_of, returned_of, is_done, too_long, bad_start, refused_for, returned_for, refused_within}
+use Rattle.log_scan.specs.Answers.{is_place, place_in}
 use Rattle.log_scan.specs.Answers.{bytes_by, done_as, or_wrong, scanned_as, scanned_from, within_room}
 use Rattle.std.specs.Prelude.{Ok, Err}
 use Rattle.log_scan.specs.declared.answer.LogRefusal.TheVariants.{TooLong, BadStart, TooShort}
