@@ -7,13 +7,13 @@ use crate::layout::IMAGE_BYTES;
 use crate::unit::{put_unit, read_unit, unit_fits};
 use apu::Apu;
 
-// Refusal 8, with the bytes needed.
+// Refusal 8: the place for an image has fewer bytes than needed.
 #[derive(Clone, Copy)]
 pub struct TooShort {
     pub needed: usize,
 }
 
-// Refusal 7.
+// Refusal 7: the image is wrong.
 #[derive(Clone, Copy)]
 pub struct WrongImage;
 

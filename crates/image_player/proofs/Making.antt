@@ -38,8 +38,8 @@ put_in : (byte : ℕ) (out : List ℕ) → byte ≤ 3 → saved_in (unit_of_star
 unfolding made_in pick
 put_in byte out h = rw (le-ltb 3 byte h)
 
-pub written : (byte : ℕ) (out : List ℕ) → byte ≤ 3 → {u : Apu} {s : Result Unit image.TooShort} {out' : List ℕ} → u ≡ unit_of_start byte → s ≡ saved_of (length out)
-    → out' ≡ saved_in u out → (made s ≡ made_of byte (length out)) × (out' ≡ made_in byte out)
+pub written : (byte : ℕ) (out : List ℕ) → byte ≤ 3 → {u : Apu} {s : Result Unit image.TooShort} {out' : List ℕ} → u ≡ unit_of_start byte
+    → s ≡ saved_of (length out) → out' ≡ saved_in u out → (made s ≡ made_of byte (length out)) × (out' ≡ made_in byte out)
 written byte out h e f g = (ap made f ∙ made_is byte (length out) h, g ∙ ap (λ (v : Apu). saved_in v out) e ∙ put_in byte out h)
 
 -- its numbers: the refusal is 8 at most, and what is returned is the image's length at most

@@ -13,7 +13,7 @@ use log_player::play::play_list;
 use log_records::cut::version_of;
 
 // Plays a log on a unit, and writes the image of the unit after it. The log is answered first and the place for the image looked at next, so that a refusal
-// comes before anything is written.
+// comes before anything is written, and the image has room.
 pub fn play_kept(apu: Apu, log: &[u8], out: &mut [u8], after: &mut [u8]) -> ImageAnswer
     requires { Whole apu }
     ensures value { result ≡ answer_kept apu log.now (length out.old) (length after.old) }

@@ -22,4 +22,5 @@ returns-clause-out_after c =
     let is = c.start-apu.ensures.value ∙ ap unit_of_start c.start_byte.ensures in
     let answered = c.in_ok-played.ensures.value in
     let put = put_out unit args.log.now args.out.now {answer = Ok c.in_ok-played.played} answered refl in
-    (told_on unit args.log.now args.out.now {answer = Ok c.in_ok-played.played} answered is (rw c.version_of.ensures at c.play_list.ensures.out_after ∙ put)).1.0
+    (told_on unit args.log.now args.out.now {answer = Ok c.in_ok-played.played} answered is
+    (rw c.version_of.ensures at c.play_list.ensures.out_after ∙ put)).1.0

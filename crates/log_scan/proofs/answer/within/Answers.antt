@@ -19,7 +19,8 @@ returns-in_err-played c =
 pub returns-then-room-played : goal.returns-then-room-played
 unfolding pick within_room
 returns-then-room-played c =
-    let told = within_refuses c.args.room c.args.answer {r = Err (TooShort c.in_ok-played.played.written)} (rw (c.in_ok-played.was, lt-ltb _ _ c.if-room-played.true)) in
+    let told = within_refuses c.args.room c.args.answer {r = Err (TooShort c.in_ok-played.played.written)}
+    (rw (c.in_ok-played.was, lt-ltb _ _ c.if-room-played.true)) in
     record { value = told.0; result_value = told.1 }
 
 pub returns : goal.returns
