@@ -1,5 +1,4 @@
 -- At every turn what is owed and the calls still to come make what all calls make from the start; their number falls. Assumes nothing.
-use borrow.Author.Rules.{rules}
 use native.Mathlib.Omega.{arith}
 use Prim.Native.Nat.{ℕ, ◌+◌, ◌-◌, ◌≤◌}
 use mathlib.Core.Path.{◌≡◌, ◌∙◌}
@@ -16,33 +15,10 @@ loop-i-init c =
     let pre = c.requires in
     owing (record { held = pre.held; floats = pre.floats_held }) pre.from_bound pre.apu_in_bounds
 
-pub overflow_sub-to : goal.overflow_sub-to
-overflow_sub-to c = omega arith
-
-pub same_bit-some-requires : goal.same_bit-some-requires
-same_bit-some-requires c = record { i_bound = search rules; le_count = omega arith }
-
 pub meet-met-requires : goal.meet-met-requires
 meet-met-requires c =
     let inv = c.loop-i.invariant in
     record { half_bound = inv.going.ready.held.clocks; count_bound = omega (arith, inv.left, c.same_bit-some.ensures.lower_bound.1) }
-
-pub overflow_cast-i-in-loop-i-2 : goal.overflow_cast-i-in-loop-i-2
-overflow_cast-i-in-loop-i-2 c =
-    let same_bit = c.same_bit-some in
-    let fits = c.ranges in
-    omega (arith, same_bit.ensures.lower_bound.1, fits)
-
-pub overflow_add-i : goal.overflow_add-i
-overflow_add-i c =
-    let same_bit = c.same_bit-some in
-    let fits = c.ranges in
-    omega (arith, same_bit.ensures.lower_bound.1, fits)
-
-pub overflow_add-owed : goal.overflow_add-owed
-overflow_add-owed c =
-    let inv = c.loop-i.invariant in
-    omega (arith, inv.few)
 
 pub fall-q-requires : goal.fall-q-requires
 fall-q-requires c =
@@ -62,11 +38,6 @@ overflow_sub-owed c =
     let fell = c.if-met.true in
     (falls inv met fell).count
 
-pub loop-i-smaller-then-met : goal.loop-i-smaller-then-met
-loop-i-smaller-then-met c =
-    let stretch = c.same_bit-some.ensures in
-    omega (arith, stretch.lower_bound)
-
 pub loop-i-preserved-then-met : goal.loop-i-preserved-then-met
 loop-i-preserved-then-met c =
     let inv = c.loop-i.invariant in
@@ -84,9 +55,6 @@ overflow_add-owed-else-met c =
     let bit = c.sequencer_bit-bit.ensures in
     let met = meets (calls _ _ _ stretch.lower_bound.1) stretch.one_bit c.divider_at.ensures bit c.meet-met.ensures in
     omega (arith, owed_few inv met)
-
-pub loop-i-smaller : goal.loop-i-smaller
-loop-i-smaller c = omega arith
 
 pub loop-i-preserved : goal.loop-i-preserved
 loop-i-preserved c =

@@ -5,9 +5,6 @@ use Rattle.clocks.proofs.Distances.{kept_below, after_below}
 use Rattle.apu_run.proofs.Resting.{resting_first, resting_on, resting_last, due_some, out_long, silent_room, last_room}
 use Rattle.apu_run.proofs.frames.rest.Goals as goal
 
-pub units_of-units-requires : goal.units_of-units-requires
-units_of-units-requires c = c.requires.floats_held.counter
-
 pub until-due-requires : goal.until-due-requires
 until-due-requires c =
     let units_of = c.units_of-units in
@@ -32,17 +29,6 @@ overflow_add-at c =
     let loop = c.loop-due in
     omega (arith, silent_room loop.invariant loop-test.true, out_long loop.invariant, c.well_formed)
 
-pub past_frame-units-requires : goal.past_frame-units-requires
-past_frame-units-requires c =
-    let loop = c.loop-due in
-    record { units_bound = loop.invariant.below; due_value = loop.invariant.next }
-
-pub overflow_add-waiting : goal.overflow_add-waiting
-overflow_add-waiting c =
-    let loop-test = c.loop-due-test in
-    let loop = c.loop-due in
-    omega (arith, loop.invariant.few, loop-test.true)
-
 pub until-due-requires-in-loop-due : goal.until-due-requires-in-loop-due
 until-due-requires-in-loop-due c =
     let past-frame = c.past_frame-units in
@@ -64,23 +50,14 @@ loop-due-preserved c =
     let loop = c.loop-due in
     resting_on loop.invariant loop-test.true put-silence.ensures past-frame.ensures until2.ensures
 
-pub sound_from-requires : goal.sound_from-requires
-sound_from-requires c =
-    let loop = c.loop-due in
-    let inv = loop.invariant in
-    record {
-      held = inv.held;
-      floats_held = inv.floats;
-      ahead_bound = inv.below;
-      count_bound = inv.few;
-      waiting_in_bounds = last_room inv;
-    }
-
 pub shape_of-out : goal.shape_of-out
 shape_of-out c =
     let sound-from = c.sound_from in
     let loop = c.loop-due in
     sound-from.auto.out ∙ out_long loop.invariant
+
+pub sound_from-requires-clause-waiting_in_bounds : goal.sound_from-requires-clause-waiting_in_bounds
+sound_from-requires-clause-waiting_in_bounds c = last_room c.loop-due.invariant
 
 pub returns : goal.returns
 returns c =

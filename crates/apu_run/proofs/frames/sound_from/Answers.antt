@@ -23,16 +23,6 @@ fast_of-fast-requires c =
     let pre = c.requires in
     rw settings-of.ensures (settings_held args.unit pre.held)
 
-pub phases_of-phases-requires : goal.phases_of-phases-requires
-phases_of-phases-requires c =
-    let pre = c.requires in
-    pre.held
-
-pub until-due-requires : goal.until-due-requires
-until-due-requires c =
-    let pre = c.requires in
-    pre.ahead_bound
-
 pub loop-known-init : goal.loop-known-init
 loop-known-init c =
     let until = c.until-due in
@@ -64,17 +54,6 @@ advance-phases-requires c =
     let loop = c.loop-known in
     record { phases_held = loop.invariant.phases; settings_held = loop.invariant.held; n_bound = omega (arith, few_clocks loop.invariant before) }
 
-pub later-requires : goal.later-requires
-later-requires c =
-    let if2 = c.if-over in
-    let loop = c.loop-known in
-    record { units_bound = loop.invariant.below; clocks_bound = rw loop.invariant.next at if2.true }
-
-pub counter_of-requires : goal.counter_of-requires
-counter_of-requires c =
-    let later = c.later in
-    later.ensures.upper_bound
-
 pub shape_of-out-then-over : goal.shape_of-out-then-over
 shape_of-out-then-over c =
     let loop = c.loop-known in
@@ -104,11 +83,6 @@ returns-then-over c =
       value = last.0 ∙ ap (λ (t : Take). parts_of t a.start) all;
       out_after = last.1 ∙ ap (λ (t : Take). sets a.out.now a.start t.bytes) all;
     }
-
-pub slice_bounds-levels_of-end : goal.slice_bounds-levels_of-end
-slice_bounds-levels_of-end c =
-    let loop = c.loop-known in
-    sym loop.invariant.held.wave.buffer
 
 pub levels_of-levels-requires : goal.levels_of-levels-requires
 levels_of-levels-requires c =
@@ -163,11 +137,6 @@ overflow_add-at c =
     ] in
     let framed = framed_of looked step-frame.ensures in
     omega (arith, framed_room framed, out_long loop.invariant, good)
-
-pub past_frame-units-requires : goal.past_frame-units-requires
-past_frame-units-requires c =
-    let loop = c.loop-known in
-    record { units_bound = loop.invariant.below; due_value = loop.invariant.next }
 
 pub overflow_sub-left : goal.overflow_sub-left
 overflow_sub-left c =
