@@ -90,7 +90,7 @@ levels_of-levels-requires c =
     let before = c.min.ensures in
     let loop = c.loop-known in
     let moved = moved-of loop.invariant before advance.ensures in
-    record { frame_settings_held = frame_settings_held loop.invariant; phases_held = moved_held moved; ram_len = loop.invariant.held.wave.buffer }
+    record { frame_settings_held = frame_settings_held loop.invariant; phases_held = moved_held moved }
 
 pub known_of-known-requires : goal.known_of-known-requires
 known_of-known-requires c =
