@@ -2,7 +2,8 @@
 // number and the number that it returns to standard error. TOO LONG there is a file of more bytes than it takes.
 #![tactic(auto)]
 
-use log_vgm::import::{import_log, refusal, returned};
+use log_scan::refusal::Refusal;
+use log_vgm::import::import_log;
 use std::io::{self, ErrorKind, Read};
 
 // The most bytes of a file that it takes. (The library has no such bound.)
@@ -22,7 +23,7 @@ fn import(rt: &(impl Print + Eprint), vgm: &[u8]) -> io::Result<()> {
     let mut log = [0; 65_536];
     match import_log(vgm, &mut log) {
         Ok(written) => rt.write_all(&log[..written as usize]),
-        refused => eprintln!(rt; "REFUSED {} {}", refusal(refused), returned(refused)),
+        Err(refusal) => eprintln!(rt; "REFUSED {} {}", refusal.number(), refusal.returned()),
     }
 }
 

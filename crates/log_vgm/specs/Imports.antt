@@ -1,6 +1,7 @@
 -- What the import of a VGM file is answered, from request 2026-05: refusals 9, 10, 11 and 6. Assumes nothing.
 use Rattle.std.specs.Prelude.{ℕ, ◌+◌, ◌-◌, ◌*◌, ◌^◌, min, Bool, true, false, List, ◌++◌, length, drop, ltb, Result, Ok, Err}
 use Rattle.ground.specs.Pick.{pick}
+use Rattle.log_scan.specs.Answers.{refusal_in}
 use Rattle.log_vgm.specs.declared.clockwork.Clockwork.{Clockwork}
 use Rattle.log_vgm.specs.declared.refusal.ImportRefusal.{ImportRefusal}
 use Rattle.log_vgm.specs.declared.refusal.ImportRefusal.TheVariants.{BadHeader, BadCommand, TooLong, TooShort}
@@ -27,21 +28,27 @@ fitted room needed = pick (ltb 65536 needed) (Err TooLong) (pick (ltb room neede
 unfoldable pub imported_of : List ℕ → ℕ → Imported
 imported_of s room = pick (bad_header s) (Err BadHeader) (or_stopped (track_of s) (fitted room (length (log_of s))))
 
+-- a refusal's number, and the "number returned" beside it: 9 and 11 return 0, 10 the place, 6 the bytes needed
+abbrev pub number_of : ImportRefusal → ℕ
+number_of BadHeader = 9
+number_of (BadCommand place) = 10
+number_of TooLong = 11
+number_of (TooShort needed) = 6
+
+abbrev pub number_returned : ImportRefusal → ℕ
+number_returned BadHeader = 0
+number_returned (BadCommand place) = place
+number_returned TooLong = 0
+number_returned (TooShort needed) = needed
+
 -- the refusal's number; 0 stands for none
 abbrev pub refusal_of : Imported → ℕ
-refusal_of (Ok written) = 0
-refusal_of (Err BadHeader) = 9
-refusal_of (Err (BadCommand place)) = 10
-refusal_of (Err TooLong) = 11
-refusal_of (Err (TooShort needed)) = 6
+refusal_of a = refusal_in number_of a
 
--- bytes written, or the number returned: 9 and 11 return 0, 10 the place, 6 the bytes needed
+-- bytes written, or the number returned
 abbrev pub returned_of : Imported → ℕ
 returned_of (Ok written) = written
-returned_of (Err BadHeader) = 0
-returned_of (Err (BadCommand place)) = place
-returned_of (Err TooLong) = 0
-returned_of (Err (TooShort needed)) = needed
+returned_of (Err r) = number_returned r
 
 -- a number, or the most where it is above that
 abbrev pub capped : ℕ → ℕ → ℕ
