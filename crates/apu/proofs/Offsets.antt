@@ -3,17 +3,13 @@ use mathlib.Core.Path.{◌≡◌}
 use mathlib.Core.Bool.{false}
 use Prim.Native.Nat.{ℕ, ◌≤◌, ◌<◌}
 use native.Mathlib.Omega.{arith}
-use borrow.Author.Tests.{eq-eqb, ne_eqb, lt-ltb, le-ltb}
+use borrow.Author.Tests.{ne_eqb, lt-ltb, le-ltb}
 use lib.Dec.{eqb}
 use Rattle.ground.specs.Pick.{pick}
 use Rattle.ground.proofs.Cases.{both_ways}
 use Rattle.apu.specs.Registers.{PerGroup, by_offset}
 
 module _ {A : Type 0} (at : ℕ) (each : PerGroup A) where
-  pub at_sweep : at ≡ 0 → by_offset at each ≡ each.sweep
-  unfolding by_offset pick
-  at_sweep e = rw (eq-eqb at 0 e)
-
   pub at_pulse1 : (at ≡ 0 → ⊥) → at < 5 → by_offset at each ≡ each.pulse1
   unfolding by_offset pick
   at_pulse1 h k = rw (ne_eqb at 0 h, lt-ltb at 5 k)

@@ -39,15 +39,11 @@ impl Apu {
         ensures value { result ≡ fresh dmg }
         ensures held { Held result × FloatsHeld result }
     {
-        let pulse1 = PulseGroup::new();
-        let pulse2 = PulseGroup::new();
-        let wave = WaveGroup::new();
-        let noise = NoiseGroup::new();
         Apu {
-            pulse1,
-            pulse2,
-            wave,
-            noise,
+            pulse1: PulseGroup::new(),
+            pulse2: PulseGroup::new(),
+            wave: WaveGroup::new(),
+            noise: NoiseGroup::new(),
             channels_control: 0,
             channels_selection: 0,
             power: false,
@@ -65,17 +61,9 @@ impl Apu {
         ensures held { Held result × FloatsHeld result }
     {
         let mut next = Apu::new(dmg);
-        let mut pulse1 = next.pulse1;
-        let mut channel = pulse1.channel;
-        let envelope = channel.envelope;
-        channel.envelope = envelope.write_envelope_register(0xF3);
-        let shaped = channel.write_pattern_duty(2);
-        pulse1.channel = shaped.set_enable(true);
-        let mut noise = next.noise;
-        let length = noise.length;
-        noise.length = length.write_sound_length(0x3F);
-        next.pulse1 = pulse1;
-        next.noise = noise;
+        next.pulse1.channel.envelope = next.pulse1.channel.envelope.write_envelope_register(0xF3);
+        next.pulse1.channel = next.pulse1.channel.write_pattern_duty(2).set_enable(true);
+        next.noise.length = next.noise.length.write_sound_length(0x3F);
         next.channels_control = 0x77;
         next.channels_selection = 0xF3;
         next.power = true;

@@ -29,55 +29,29 @@ impl Apu {
     fn status(self) -> u8
         ensures { result ≡ status_byte self }
     {
-        let pulse1 = self.pulse1;
-        let pulse2 = self.pulse2;
-        let wave = self.wave;
-        let noise = self.noise;
         0x70 + flag(self.power, 128)
-            + flag(noise.channel.channel_enabled, 8)
-            + flag(wave.channel.channel_enable, 4)
-            + flag(pulse2.channel.channel_enabled, 2)
-            + flag(pulse1.channel.channel_enabled, 1)
+            + flag(self.noise.channel.channel_enabled, 8)
+            + flag(self.wave.channel.channel_enable, 4)
+            + flag(self.pulse2.channel.channel_enabled, 2)
+            + flag(self.pulse1.channel.channel_enabled, 1)
     }
 
     // What FF10 and up read as, by the offset.
     fn byte_at(self, at: u16) -> u8
         ensures { result ≡ byte_at self at }
     {
-        let pulse1 = self.pulse1;
-        let pulse2 = self.pulse2;
-        let wave = self.wave;
-        let noise = self.noise;
-        if at == 0 {
-            let sweep = pulse1.channel.sweep;
-            return 0x80 + sweep.read_sweep_register();
+        match at {
+            0 => 0x80 + self.pulse1.channel.sweep.read_sweep_register(),
+            1..=4 => self.pulse1.read(at),
+            5..=9 => self.pulse2.read(at - 5),
+            10..=14 => self.wave.read(at - 10),
+            15..=19 => self.noise.read(at - 15),
+            20 => self.channels_control,
+            21 => self.channels_selection,
+            22 => self.status(),
+            23..=31 => 0xFF,
+            _ => self.wave.channel.read_buffer(self.is_dmg, (at % 16) as u8),
         }
-        if at < 5 {
-            return pulse1.read(at);
-        }
-        if at < 10 {
-            return pulse2.read(at - 5);
-        }
-        if at < 15 {
-            return wave.read(at - 10);
-        }
-        if at < 20 {
-            return noise.read(at - 15);
-        }
-        if at == 20 {
-            return self.channels_control;
-        }
-        if at == 21 {
-            return self.channels_selection;
-        }
-        if at == 22 {
-            return self.status();
-        }
-        if at < 32 {
-            return 0xFF;
-        }
-        let channel = wave.channel;
-        channel.read_buffer(self.is_dmg, (at % 16) as u8)
     }
 
     // A read of any address.
@@ -97,9 +71,7 @@ impl Apu {
         requires { Held self }
         ensures { result ≡ pcm12_of self }
     {
-        let pulse1 = self.pulse1.channel;
-        let pulse2 = self.pulse2.channel;
-        pulse2.output() % 16 * 16 + pulse1.output() % 16
+        self.pulse2.channel.output() % 16 * 16 + self.pulse1.channel.output() % 16
     }
 
     // FF77: the outputs of noise and wave.
@@ -107,9 +79,7 @@ impl Apu {
         requires { Held self }
         ensures { result ≡ pcm34_of self }
     {
-        let wave = self.wave.channel;
-        let noise = self.noise.channel;
-        noise.output() % 16 * 16 + wave.output() % 16
+        self.noise.channel.output() % 16 * 16 + self.wave.channel.output() % 16
     }
 
     // Whether the sequencer's next position is even, so that it will not clock length.
@@ -127,36 +97,15 @@ impl Apu {
     {
         let even = self.next_even();
         let mut next = self;
-        if at == 0 {
-            let group = self.pulse1;
-            next.pulse1 = group.write_sweep(value);
-            return next;
+        match at {
+            0 => next.pulse1 = self.pulse1.write_sweep(value),
+            1..=4 => next.pulse1 = self.pulse1.write(at, self.power, even, value),
+            5..=9 => next.pulse2 = self.pulse2.write(at - 5, self.power, even, value),
+            10..=14 => next.wave = self.wave.write(at - 10, self.is_dmg, even, value),
+            15..=19 => next.noise = self.noise.write(at - 15, even, value),
+            20 => next.channels_control = value,
+            _ => next.channels_selection = value,
         }
-        if at < 5 {
-            let group = self.pulse1;
-            next.pulse1 = group.write(at, self.power, even, value);
-            return next;
-        }
-        if at < 10 {
-            let group = self.pulse2;
-            next.pulse2 = group.write(at - 5, self.power, even, value);
-            return next;
-        }
-        if at < 15 {
-            let group = self.wave;
-            next.wave = group.write(at - 10, self.is_dmg, even, value);
-            return next;
-        }
-        if at < 20 {
-            let group = self.noise;
-            next.noise = group.write(at - 15, even, value);
-            return next;
-        }
-        if at == 20 {
-            next.channels_control = value;
-            return next;
-        }
-        next.channels_selection = value;
         next
     }
 
@@ -165,22 +114,19 @@ impl Apu {
         requires { Held self }
         ensures { result ≡ gated_written self at value }
     {
-        if self.power {
-            return self.write_sound(at, value);
+        if self.power || matches!(at, 1 | 6 | 11 | 16) {
+            self.write_sound(at, value)
+        } else {
+            self
         }
-        if (at == 1) | ((at == 6) | ((at == 11) | (at == 16))) {
-            return self.write_sound(at, value);
-        }
-        self
     }
 
     // Wave RAM.
     fn write_ram(self, at: u16, value: u8) -> Apu
         ensures { result ≡ ram_written self at value }
     {
-        let group = self.wave;
         let mut next = self;
-        next.wave = group.write_ram(self.is_dmg, (at % 16) as u8, value);
+        next.wave = self.wave.write_ram(self.is_dmg, (at % 16) as u8, value);
         next
     }
 
@@ -200,15 +146,11 @@ impl Apu {
     fn silence(self) -> Apu
         ensures { result ≡ silenced self }
     {
-        let pulse1 = self.pulse1;
-        let pulse2 = self.pulse2;
-        let wave = self.wave;
-        let noise = self.noise;
         let mut next = self;
-        next.pulse1 = pulse1.silence();
-        next.pulse2 = pulse2.silence();
-        next.wave = wave.silence();
-        next.noise = noise.silence();
+        next.pulse1 = self.pulse1.silence();
+        next.pulse2 = self.pulse2.silence();
+        next.wave = self.wave.silence();
+        next.noise = self.noise.silence();
         next.power = false;
         next
     }
@@ -224,13 +166,10 @@ impl Apu {
     fn restart(self) -> Apu
         ensures { result ≡ restarted self }
     {
-        let pulse1 = self.pulse1;
-        let pulse2 = self.pulse2;
-        let wave = self.wave;
         let mut next = self;
-        next.pulse1 = pulse1.rewind();
-        next.pulse2 = pulse2.rewind();
-        next.wave = wave.rewind();
+        next.pulse1 = self.pulse1.rewind();
+        next.pulse2 = self.pulse2.rewind();
+        next.wave = self.wave.rewind();
         next.power = true;
         next.sequencer_position = 0;
         if self.divider_sequencer_clock_bit {
@@ -243,15 +182,11 @@ impl Apu {
     fn refill(self) -> Apu
         ensures { result ≡ refilled self }
     {
-        let pulse1 = self.pulse1;
-        let pulse2 = self.pulse2;
-        let wave = self.wave;
-        let noise = self.noise;
         let mut next = self;
-        next.pulse1 = pulse1.reset_length_counter();
-        next.pulse2 = pulse2.reset_length_counter();
-        next.wave = wave.reset_length_counter();
-        next.noise = noise.reset_length_counter();
+        next.pulse1 = self.pulse1.reset_length_counter();
+        next.pulse2 = self.pulse2.reset_length_counter();
+        next.wave = self.wave.reset_length_counter();
+        next.noise = self.noise.reset_length_counter();
         next
     }
 
@@ -271,10 +206,10 @@ impl Apu {
         requires { Held self }
         ensures { result ≡ power_written self value }
     {
-        if 128 <= value {
-            if self.power { self } else { self.power_on() }
-        } else {
-            if self.power { self.power_off() } else { self }
+        match (128 <= value, self.power) {
+            (true, false) => self.power_on(),
+            (false, true) => self.power_off(),
+            _ => self,
         }
     }
 
@@ -283,16 +218,12 @@ impl Apu {
         requires { Held self }
         ensures { result ≡ written_at self at value }
     {
-        if at < 22 {
-            return self.write_gated(at, value);
+        match at {
+            0..=21 => self.write_gated(at, value),
+            22 => self.write_power(value),
+            23..=31 => self,
+            _ => self.write_ram(at, value),
         }
-        if at == 22 {
-            return self.write_power(value);
-        }
-        if at < 32 {
-            return self;
-        }
-        self.write_ram(at, value)
     }
 
     // A write of any address.

@@ -37,38 +37,18 @@ pub struct GroupWrite {
 fn group_at(addr: u16, value: u8) -> Option<GroupWrite>
     ensures { result ≡ group_at addr value }
 {
-    if addr < 0xFF11 {
-        return None;
-    }
-    if addr < 0xFF15 {
-        return Some(GroupWrite {
-            group: Group::Pulse1,
-            offset: addr - 0xFF10,
-            value,
-        });
-    }
-    if addr < 0xFF1A {
-        return Some(GroupWrite {
-            group: Group::Pulse2,
-            offset: addr - 0xFF15,
-            value,
-        });
-    }
-    if addr < 0xFF1F {
-        return Some(GroupWrite {
-            group: Group::Wave,
-            offset: addr - 0xFF1A,
-            value,
-        });
-    }
-    if addr < 0xFF24 {
-        return Some(GroupWrite {
-            group: Group::Noise,
-            offset: addr - 0xFF1F,
-            value,
-        });
-    }
-    None
+    let (group, base) = match addr {
+        0xFF11..=0xFF14 => (Group::Pulse1, 0xFF10),
+        0xFF15..=0xFF19 => (Group::Pulse2, 0xFF15),
+        0xFF1A..=0xFF1E => (Group::Wave, 0xFF1A),
+        0xFF1F..=0xFF23 => (Group::Noise, 0xFF1F),
+        _ => return None,
+    };
+    Some(GroupWrite {
+        group,
+        offset: addr - base,
+        value,
+    })
 }
 
 // The write to one group that a body is, with power on. In every version a write's body has four bytes, the first of them 01; what is no right address is no

@@ -1,74 +1,69 @@
--- Each way out is the case of `byte_at` that the offset picks. Assumes nothing.
+-- Each arm is the case of `byte_at` that the offset picks. Assumes nothing.
 use mathlib.Core.Path.{sym, ◌∙◌}
-use borrow.Author.Tests.{eq-eqb, ne_eqb, lt-ltb, le-ltb}
+use borrow.Author.Tests.{ne_eqb, lt-ltb, le-ltb}
 use native.Mathlib.Omega.{arith}
 use Rattle.ground.specs.Pick.{pick}
-use Rattle.apu.specs.Registers.{byte_at}
+use Rattle.apu.specs.Registers.{by_offset, byte_at}
 use Rattle.channel_pulse.proofs.Ranges.{sweep_byte_le}
-use Rattle.apu.proofs.Offsets.{at_sweep, at_pulse1, at_pulse2, at_wave, at_noise, past_groups}
+use Rattle.apu.proofs.Offsets.{at_pulse1, at_pulse2, at_wave, at_noise, past_groups}
 use Rattle.apu.proofs.Apu.byte_at.Goals as goal
 
 pub overflow_add-result : goal.overflow_add-result
 overflow_add-result c = omega (arith, sweep_byte_le c.args.self.pulse1.channel.sweep, c.read_sweep_register.ensures)
 
-pub returns-then-at-eq0 : goal.returns-then-at-eq0
-unfolding byte_at
-returns-then-at-eq0 c = rw (c.read_sweep_register.ensures, at_sweep _ _ c.if-at-eq0.true)
+pub returns-in-0 : goal.returns-in-0
+unfolding pick by_offset byte_at
+returns-in-0 c = rw (c.read_sweep_register.ensures, c.in-0.is)
 
-pub returns-then-at-lt5 : goal.returns-then-at-lt5
+pub returns-in-1-to-4 : goal.returns-in-1-to-4
 unfolding byte_at
-returns-then-at-lt5 c = c.read.ensures ∙ sym (at_pulse1 _ _ c.if-at-eq0.false c.if-at-lt5.true)
+returns-in-1-to-4 c = c.read.ensures ∙ sym (at_pulse1 c.args.at _ (omega arith) (omega arith))
 
-pub returns-then-at-lt10 : goal.returns-then-at-lt10
+pub returns-in-5-to-9 : goal.returns-in-5-to-9
 unfolding byte_at
-returns-then-at-lt10 c = c.read-then-at-lt10.ensures ∙ sym (at_pulse2 _ _ c.if-at-lt5.false c.if-at-lt10.true)
+returns-in-5-to-9 c = c.read-in-5-to-9.ensures ∙ sym (at_pulse2 c.args.at _ (omega arith) (omega arith))
 
-pub returns-then-at-lt15 : goal.returns-then-at-lt15
+pub returns-in-10-to-14 : goal.returns-in-10-to-14
 unfolding byte_at
-returns-then-at-lt15 c = c.read-then-at-lt15.ensures ∙ sym (at_wave _ _ c.if-at-lt10.false c.if-at-lt15.true)
+returns-in-10-to-14 c = c.read-in-10-to-14.ensures ∙ sym (at_wave c.args.at _ (omega arith) (omega arith))
 
-pub returns-then-at-lt20 : goal.returns-then-at-lt20
+pub returns-in-15-to-19 : goal.returns-in-15-to-19
 unfolding byte_at
-returns-then-at-lt20 c = c.read-then-at-lt20.ensures ∙ sym (at_noise _ _ c.if-at-lt15.false c.if-at-lt20.true)
+returns-in-15-to-19 c = c.read-in-15-to-19.ensures ∙ sym (at_noise c.args.at _ (omega arith) (omega arith))
 
-pub returns-then-at-eq20 : goal.returns-then-at-eq20
+pub returns-in-20 : goal.returns-in-20
+unfolding pick by_offset byte_at
+returns-in-20 c = rw c.in-20.is
+
+pub returns-in-21 : goal.returns-in-21
+unfolding pick by_offset byte_at
+returns-in-21 c = rw c.in-21.is
+
+pub returns-in-22 : goal.returns-in-22
+unfolding pick by_offset byte_at
+returns-in-22 c = rw (c.status.ensures, c.in-22.is)
+
+pub returns-in-23-to-31 : goal.returns-in-23-to-31
 unfolding pick byte_at
-returns-then-at-eq20 c = rw (past_groups _ _ c.if-at-lt20.false, eq-eqb _ _ c.if-at-eq20.true)
-
-pub returns-then-at-eq21 : goal.returns-then-at-eq21
-unfolding pick byte_at
-returns-then-at-eq21 c = rw (past_groups _ _ c.if-at-lt20.false, ne_eqb _ _ c.if-at-eq20.false, eq-eqb _ _ c.if-at-eq21.true)
-
-pub returns-then-at-eq22 : goal.returns-then-at-eq22
-unfolding pick byte_at
-returns-then-at-eq22 c =
+returns-in-23-to-31 c =
+    let at = c.args.at in
     rw (
-      c.status.ensures,
-      past_groups _ _ c.if-at-lt20.false,
-      ne_eqb _ _ c.if-at-eq20.false,
-      ne_eqb _ _ c.if-at-eq21.false,
-      eq-eqb _ _ c.if-at-eq22.true,
+      past_groups at _ (omega arith),
+      ne_eqb at 20 (omega arith),
+      ne_eqb at 21 (omega arith),
+      ne_eqb at 22 (omega arith),
+      lt-ltb at 32 (omega arith),
     )
 
-pub returns-then-at-lt32 : goal.returns-then-at-lt32
+pub returns-in_default : goal.returns-in_default
 unfolding pick byte_at
-returns-then-at-lt32 c =
-    rw (
-      past_groups _ _ c.if-at-lt20.false,
-      ne_eqb _ _ c.if-at-eq20.false,
-      ne_eqb _ _ c.if-at-eq21.false,
-      ne_eqb _ _ c.if-at-eq22.false,
-      lt-ltb _ _ c.if-at-lt32.true,
-    )
-
-pub returns : goal.returns
-unfolding pick byte_at
-returns c =
+returns-in_default c =
+    let at = c.args.at in
     rw (
       c.read_buffer.ensures,
-      past_groups _ _ c.if-at-lt20.false,
-      ne_eqb _ _ c.if-at-eq20.false,
-      ne_eqb _ _ c.if-at-eq21.false,
-      ne_eqb _ _ c.if-at-eq22.false,
-      le-ltb _ _ c.if-at-lt32.false,
+      past_groups at _ (omega arith),
+      ne_eqb at 20 (omega arith),
+      ne_eqb at 21 (omega arith),
+      ne_eqb at 22 (omega arith),
+      le-ltb at 32 (omega arith),
     )

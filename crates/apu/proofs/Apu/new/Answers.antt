@@ -7,6 +7,6 @@ pub returns : goal.returns
 unfolding fresh
 returns c =
     record {
-      value = rw (c.new-noise.ensures, c.new-wave.ensures, c.new-pulse2.ensures, c.new-pulse1.ensures);
-      held = new_given c.args.dmg (rw (c.new-noise.ensures, c.new-wave.ensures, c.new-pulse2.ensures, c.new-pulse1.ensures));
+      value = rw (c.new-4.ensures, c.new-3.ensures, c.new-2.ensures, c.new.ensures);
+      held = new_given c.args.dmg (rw (c.new-4.ensures, c.new-3.ensures, c.new-2.ensures, c.new.ensures));
     }

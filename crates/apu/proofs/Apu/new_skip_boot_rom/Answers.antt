@@ -6,10 +6,10 @@ use Rattle.apu.proofs.Apu.new_skip_boot_rom.Goals as goal
 pub returns : goal.returns
 unfolding skipped
 returns c =
-    let length = c.write_sound_length-noise in
-    let on = c.set_enable-pulse1 in
-    let duty = c.write_pattern_duty-shaped in
-    let envelope = c.write_envelope_register-channel in
+    let length = c.write_sound_length-next in
+    let on = c.set_enable-next in
+    let duty = c.write_pattern_duty in
+    let envelope = c.write_envelope_register-next in
     let fresh = c.new-next in
     record {
       value = rw (length.ensures, on.ensures, duty.ensures, envelope.ensures, fresh.ensures.value);

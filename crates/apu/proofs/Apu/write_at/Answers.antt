@@ -1,21 +1,26 @@
--- Each way out is the case of `written_at` that the offset picks. Assumes nothing.
-use borrow.Author.Tests.{eq-eqb, ne_eqb, lt-ltb, le-ltb}
+-- Each arm is the case of `written_at` that the offset picks. Assumes nothing.
+use borrow.Author.Tests.{ne_eqb, lt-ltb, le-ltb}
+use native.Mathlib.Omega.{arith}
 use Rattle.ground.specs.Pick.{pick}
 use Rattle.apu.specs.Registers.{written_at}
 use Rattle.apu.proofs.Apu.write_at.Goals as goal
 
-pub returns-then-at-lt22 : goal.returns-then-at-lt22
+pub returns-in-0-to-21 : goal.returns-in-0-to-21
 unfolding pick written_at
-returns-then-at-lt22 c = rw (c.write_gated.ensures, lt-ltb _ _ c.if-at-lt22.true)
+returns-in-0-to-21 c = rw (c.write_gated.ensures, lt-ltb c.args.at 22 (omega arith))
 
-pub returns-then-at-eq22 : goal.returns-then-at-eq22
+pub returns-in-22 : goal.returns-in-22
 unfolding pick written_at
-returns-then-at-eq22 c = rw (c.write_power.ensures, le-ltb _ _ c.if-at-lt22.false, eq-eqb _ _ c.if-at-eq22.true)
+returns-in-22 c = rw (c.write_power.ensures, c.in-22.is)
 
-pub returns-then-at-lt32 : goal.returns-then-at-lt32
+pub returns-in-23-to-31 : goal.returns-in-23-to-31
 unfolding pick written_at
-returns-then-at-lt32 c = rw (le-ltb _ _ c.if-at-lt22.false, ne_eqb _ _ c.if-at-eq22.false, lt-ltb _ _ c.if-at-lt32.true)
+returns-in-23-to-31 c =
+    let at = c.args.at in
+    rw (le-ltb at 22 (omega arith), ne_eqb at 22 (omega arith), lt-ltb at 32 (omega arith))
 
-pub returns : goal.returns
+pub returns-in_default : goal.returns-in_default
 unfolding pick written_at
-returns c = rw (c.write_ram.ensures, le-ltb _ _ c.if-at-lt22.false, ne_eqb _ _ c.if-at-eq22.false, le-ltb _ _ c.if-at-lt32.false)
+returns-in_default c =
+    let at = c.args.at in
+    rw (c.write_ram.ensures, le-ltb at 22 (omega arith), ne_eqb at 22 (omega arith), le-ltb at 32 (omega arith))

@@ -1,34 +1,39 @@
--- Each way out is the case of `sound_written` that the offset picks. Assumes nothing.
-use borrow.Author.Tests.{eq-eqb, ne_eqb}
+-- Each arm is the case of `sound_written` that the offset picks. Assumes nothing.
+use borrow.Author.Tests.{ne_eqb}
+use native.Mathlib.Omega.{arith}
 use Rattle.ground.specs.Pick.{pick}
-use Rattle.apu.specs.Registers.{sound_written}
-use Rattle.apu.proofs.Offsets.{at_sweep, at_pulse1, at_pulse2, at_wave, at_noise, past_groups}
+use Rattle.apu.specs.Registers.{by_offset, sound_written}
+use Rattle.apu.proofs.Offsets.{at_pulse1, at_pulse2, at_wave, at_noise, past_groups}
 use Rattle.apu.proofs.Apu.write_sound.Goals as goal
 
-pub returns-then-at-eq0 : goal.returns-then-at-eq0
-unfolding sound_written
-returns-then-at-eq0 c = rw (c.write_sweep-next.ensures, at_sweep _ _ c.if-at-eq0.true)
+pub returns-in-0 : goal.returns-in-0
+unfolding pick by_offset sound_written
+returns-in-0 c = rw (c.write_sweep-next.ensures, c.in-0.is)
 
-pub returns-then-at-lt5 : goal.returns-then-at-lt5
+pub returns-in-1-to-4 : goal.returns-in-1-to-4
 unfolding sound_written
-returns-then-at-lt5 c = rw (c.write-next.ensures, c.next_even-even.ensures, at_pulse1 _ _ c.if-at-eq0.false c.if-at-lt5.true)
+returns-in-1-to-4 c =
+    rw (c.write-next.ensures, c.next_even-even.ensures, at_pulse1 c.args.at _ (omega arith) (omega arith))
 
-pub returns-then-at-lt10 : goal.returns-then-at-lt10
+pub returns-in-5-to-9 : goal.returns-in-5-to-9
 unfolding sound_written
-returns-then-at-lt10 c = rw (c.write-next-then-at-lt10.ensures, c.next_even-even.ensures, at_pulse2 _ _ c.if-at-lt5.false c.if-at-lt10.true)
+returns-in-5-to-9 c =
+    rw (c.write-next-in-5-to-9.ensures, c.next_even-even.ensures, at_pulse2 c.args.at _ (omega arith) (omega arith))
 
-pub returns-then-at-lt15 : goal.returns-then-at-lt15
+pub returns-in-10-to-14 : goal.returns-in-10-to-14
 unfolding sound_written
-returns-then-at-lt15 c = rw (c.write-next-then-at-lt15.ensures, c.next_even-even.ensures, at_wave _ _ c.if-at-lt10.false c.if-at-lt15.true)
+returns-in-10-to-14 c =
+    rw (c.write-next-in-10-to-14.ensures, c.next_even-even.ensures, at_wave c.args.at _ (omega arith) (omega arith))
 
-pub returns-then-at-lt20 : goal.returns-then-at-lt20
+pub returns-in-15-to-19 : goal.returns-in-15-to-19
 unfolding sound_written
-returns-then-at-lt20 c = rw (c.write-next-then-at-lt20.ensures, c.next_even-even.ensures, at_noise _ _ c.if-at-lt15.false c.if-at-lt20.true)
+returns-in-15-to-19 c =
+    rw (c.write-next-in-15-to-19.ensures, c.next_even-even.ensures, at_noise c.args.at _ (omega arith) (omega arith))
 
-pub returns-then-at-eq20 : goal.returns-then-at-eq20
+pub returns-in-20 : goal.returns-in-20
+unfolding pick by_offset sound_written
+returns-in-20 c = rw c.in-20.is
+
+pub returns-in_default : goal.returns-in_default
 unfolding pick sound_written
-returns-then-at-eq20 c = rw (past_groups _ _ c.if-at-lt20.false, eq-eqb _ _ c.if-at-eq20.true)
-
-pub returns : goal.returns
-unfolding pick sound_written
-returns c = rw (past_groups _ _ c.if-at-lt20.false, ne_eqb _ _ c.if-at-eq20.false)
+returns-in_default c = rw (past_groups c.args.at _ (omega arith), ne_eqb c.args.at 20 (omega arith))
