@@ -29,18 +29,12 @@ pub enum Record {
 #[derive(Clone, Copy)]
 pub struct WrongRecord;
 
-fn wide(x: u8) -> u16
-    ensures { (result ≡ x) × (result < 256) }
-{
-    x as u16
-}
-
 // The two bytes at i, the high one first.
 pub fn word_at(bytes: &[u8], i: usize) -> u16
     requires { i + 1 < length bytes.now }
     ensures { result ≡ word bytes.now i }
 {
-    wide(bytes[i]) * 256 + wide(bytes[i + 1])
+    u16::from_be_bytes([bytes[i], bytes[i + 1]])
 }
 
 // Kind 01: address and data.
