@@ -35,26 +35,18 @@ fn push_output(unit: Apu) -> Framed
     requires { Held unit }
     ensures { result ≡ pushed unit }
 {
-    let pulse1 = unit.pulse1;
-    let pulse2 = unit.pulse2;
-    let wave = unit.wave;
-    let noise = unit.noise;
     let control = unit.channels_control;
     let selection = unit.channels_selection;
-    let p = pulse1.sound(control, selection, 0);
-    let q = pulse2.sound(control, selection, 1);
-    let w = wave.sound(control, selection);
-    let n = noise.sound(control, selection);
+    let p = unit.pulse1.sound(control, selection, 0);
+    let q = unit.pulse2.sound(control, selection, 1);
+    let w = unit.wave.sound(control, selection);
+    let n = unit.noise.sound(control, selection);
     let mix = mix_of(p.sides, q.sides, w.sides, n.sides);
-    let after1 = p.group;
-    let after2 = q.group;
-    let after3 = w.group;
-    let after4 = n.group;
     let mut next = unit;
-    next.pulse1 = after1;
-    next.pulse2 = after2;
-    next.wave = after3;
-    next.noise = after4;
+    next.pulse1 = p.group;
+    next.pulse2 = q.group;
+    next.wave = w.group;
+    next.noise = n.group;
     Framed { apu: next, mix }
 }
 
@@ -77,10 +69,10 @@ fn frame(unit: Apu, counter: f64, half: u8, double: bool, divider: u8) -> Framed
     ensures { result ≡ frame_of unit counter half double divider }
 {
     let framed = push_output(unit);
-    let mix = framed.mix;
-    let sounded = framed.apu;
-    let apu = pass(sounded, counter, half, double, divider);
-    Framed { apu, mix }
+    Framed {
+        apu: pass(framed.apu, counter, half, double, divider),
+        mix: framed.mix,
+    }
 }
 
 // A working clock, with so many half-clocks left after it.
@@ -94,11 +86,10 @@ fn work(unit: Apu, half: u8, double: bool, divider: u8, place: usize, lent: &mut
     if ticked.made {
         if lent.have_room(place) {
             let framed = frame(unit, ticked.counter, half, double, divider);
-            let apu = framed.apu;
             lent.put_frame(framed.mix, place);
             return Clocked {
                 answer: Ok(true),
-                apu,
+                apu: framed.apu,
             };
         }
         return Clocked {

@@ -3,9 +3,9 @@ use Rattle.apu_clock.specs.Clocking.{frame_of}
 use Rattle.apu_clock.proofs.Ranges.{pushed_held}
 use Rattle.apu_clock.proofs.clock.frame.Goals as goal
 
-pub pass-apu-requires : goal.pass-apu-requires
-pass-apu-requires c = record { held = rw c.push_output-framed.ensures (pushed_held _ c.requires.held); half_bound = c.requires.half_bound }
+pub pass-requires : goal.pass-requires
+pass-requires c = record { held = rw c.push_output-framed.ensures (pushed_held _ c.requires.held); half_bound = c.requires.half_bound }
 
 pub returns : goal.returns
 unfolding frame_of
-returns c = rw (c.pass-apu.ensures, c.push_output-framed.ensures)
+returns c = rw (c.pass.ensures, c.push_output-framed.ensures)
