@@ -4,10 +4,10 @@ ghost use Rattle.image_player.specs.Answers as kept;
 ghost use Rattle.image_player.specs.Playing.{answer_from, out_from, after_from};
 ghost use Rattle.image_player.specs.Making.{made_of, made_in, packed_made};
 
-use crate::pack::{pack, packed};
-use image_player::make::{fresh_image, returned_of_made};
+use crate::pack::pack;
+use image_player::make::fresh_image;
 use image_player::play::play_image;
-use log_scan::answer::{put_counts, refusal};
+use log_scan::answer::put_counts;
 
 // A fresh unit's image, by a log's start byte: 164, the bytes written, or refusal 4 or 8, and nothing is written.
 #[unsafe(no_mangle)]
@@ -15,8 +15,7 @@ pub extern "C" fn make_image(start: u8, image: &mut [u8]) -> u64
     ensures value { result ≡ packed_made (made_of start (length image.old)) }
     ensures image_after { image.new ≡ made_in start image.old }
 {
-    let made = fresh_image(start, image);
-    packed(refusal(made), returned_of_made(made))
+    pack(fresh_image(start, image))
 }
 
 // Plays a log's records on the unit of an image, and writes the image of the unit after them; or refuses it and writes nothing.

@@ -5,8 +5,8 @@ ghost use Rattle.log_vgm.specs.Imports.{imported_of, log_after};
 ghost use Rattle.log_vgm.specs.Imports as imports;
 
 use crate::pack::packed;
-use log_scan::answer::refusal;
-use log_vgm::import::{import_log, returned};
+use log_scan::answer::{refusal, returned};
+use log_vgm::import::import_log;
 use log_vgm::refusal::ImportRefusal;
 
 // The answer to a file as one number. A place above 48 bits, which no file has, is told as the greatest.

@@ -32,7 +32,7 @@ refusal_of a = log.refusal_in number_of a
 
 -- bytes written to the output, or the number that a refusal returns
 abbrev pub returned_of : ImageAnswer → ℕ
-returned_of a = log.returned_in number_returned a
+returned_of a = log.returned_in (λ (p : Played). p.written) number_returned a
 
 -- refusal × 2^48 + bytes written or number returned, as a log's answer
 abbrev pub packed : ImageAnswer → ℕ

@@ -4,7 +4,7 @@ use Rattle.ground.specs.Pick.{pick}
 use Rattle.log_player.specs.Playing.{unit_of_start}
 use Rattle.image.specs.Layout.{image_length}
 use Rattle.image.specs.Answers.{saved_in}
-use Rattle.log_scan.specs.Answers.{refusal_in}
+use Rattle.log_scan.specs.Answers.{refusal_in, returned_in}
 use Rattle.image_player.specs.declared.make.MakeRefusal.{MakeRefusal}
 use Rattle.image_player.specs.declared.make.MakeRefusal.TheVariants.{BadStart, TooShort}
 
@@ -33,8 +33,7 @@ abbrev pub refusal_of_made : Made → ℕ
 refusal_of_made m = refusal_in number_of_made m
 
 abbrev pub returned_of_made : Made → ℕ
-returned_of_made (Ok written) = written
-returned_of_made (Err r) = number_returned_of_made r
+returned_of_made m = returned_in (λ (n : ℕ). n) number_returned_of_made m
 
 abbrev pub packed_made : Made → ℕ
 packed_made m = refusal_of_made m * 2 ^ 48 + returned_of_made m

@@ -1,7 +1,7 @@
 // A fresh unit's image, by a log's start byte.
 ghost use Rattle.std.specs.Prelude.{◌≡◌, length};
 ghost use Rattle.std.proofs.Common.{rules};
-ghost use Rattle.image_player.specs.Making.{made_of, made_in, number_of_made, number_returned_of_made, returned_of_made};
+ghost use Rattle.image_player.specs.Making.{made_of, made_in, number_of_made, number_returned_of_made};
 ghost use Rattle.image_player.specs.declared.make.MakeRefusal.TheVariants as refused;
 
 use image::keep::{TooShort, write_image};
@@ -58,14 +58,4 @@ pub fn fresh_image(byte: u8, out: &mut [u8]) -> Result<u64, MakeRefusal>
     }
     write_image(start(byte), out)?;
     Ok(IMAGE_BYTES as u64)
-}
-
-// Bytes written, or the number that a refusal returns.
-pub fn returned_of_made(made: Result<u64, MakeRefusal>) -> u64
-    ensures { result ≡ returned_of_made made }
-{
-    match made {
-        Ok(written) => written,
-        Err(refusal) => refusal.returned(),
-    }
 }

@@ -37,16 +37,16 @@ refusal_in number (Ok x) = 0
 refusal_in number (Err r) = number r
 
 -- "bytes written or number returned"
-abbrev pub returned_in : {E : Type 0} → (E → ℕ) → Result Played E → ℕ
-returned_in number (Ok played) = played.written
-returned_in number (Err r) = number r
+abbrev pub returned_in : {T E : Type 0} → (T → ℕ) → (E → ℕ) → Result T E → ℕ
+returned_in bytes number (Ok x) = bytes x
+returned_in bytes number (Err r) = number r
 
 -- those of a log's answer
 abbrev pub refusal_of : LogAnswer → ℕ
 refusal_of a = refusal_in number_of a
 
 abbrev pub returned_of : LogAnswer → ℕ
-returned_of a = returned_in number_returned a
+returned_of a = returned_in (λ (p : Played). p.written) number_returned a
 
 -- "result refusal × 2^48 + bytes written or number returned"
 abbrev pub packed : LogAnswer → ℕ

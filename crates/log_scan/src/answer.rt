@@ -10,7 +10,7 @@ ghost use Rattle.log_scan.specs.Answers.{bad_start, is_done, refusal_of, returne
 ghost use Rattle.log_scan.specs.Answers.{number_of, number_returned, refusal_in, returned_in};
 ghost use Rattle.log_scan.specs.Answers.{Small, bytes_by, played_by, scanned_from, within_room};
 
-use crate::refusal::Refusal;
+use crate::refusal::{Refusal, Written};
 use crate::scan::{Sums, scan_list};
 use clocks::meter::{Meter, frames_from};
 use log_items::items::FRAME_BYTES;
@@ -135,6 +135,14 @@ impl Refusal for LogRefusal {
     ghost in_table = { Prim.search rules };
 }
 
+impl Written for Played {
+    ghost bytes_of = { λ p. p.written };
+
+    fn written(self) -> u64 {
+        self.written
+    }
+}
+
 // The refusal's number in the table, 0 for none.
 pub fn refusal<T: Copy, E: Refusal>(answer: Result<T, E>) -> u64
     ensures { result ≡ refusal_in E.number_of answer }
@@ -146,11 +154,11 @@ pub fn refusal<T: Copy, E: Refusal>(answer: Result<T, E>) -> u64
 }
 
 // Bytes written, or the number that a refusal returns.
-pub fn returned<E: Refusal>(answer: Result<Played, E>) -> u64
-    ensures { result ≡ returned_in E.number_returned answer }
+pub fn returned<T: Written, E: Refusal>(answer: Result<T, E>) -> u64
+    ensures { result ≡ returned_in T.bytes_of E.number_returned answer }
 {
     match answer {
-        Ok(Played { written, .. }) => written,
+        Ok(done) => done.written(),
         Err(refusal) => refusal.returned(),
     }
 }

@@ -17,3 +17,19 @@ pub trait Refusal: Copy {
     // The table ends with 11.
     ghost in_table: { (r : Self) → number_of r ≤ 11 };
 }
+
+// What is answered where nothing is refused, as the number of the bytes written.
+pub trait Written: Copy {
+    ghost bytes_of: { Self → ℕ };
+
+    fn written(self) -> u64
+        ensures { result ≡ bytes_of self };
+}
+
+impl Written for u64 {
+    ghost bytes_of = { λ n. n };
+
+    fn written(self) -> u64 {
+        self
+    }
+}

@@ -1,7 +1,7 @@
 -- What the import of a VGM file is answered, from request 2026-05: refusals 9, 10, 11 and 6. Assumes nothing.
 use Rattle.std.specs.Prelude.{ℕ, ◌+◌, ◌-◌, ◌*◌, ◌^◌, min, Bool, true, false, List, ◌++◌, length, drop, ltb, Result, Ok, Err}
 use Rattle.ground.specs.Pick.{pick}
-use Rattle.log_scan.specs.Answers.{refusal_in}
+use Rattle.log_scan.specs.Answers.{refusal_in, returned_in}
 use Rattle.log_vgm.specs.declared.clockwork.Clockwork.{Clockwork}
 use Rattle.log_vgm.specs.declared.refusal.ImportRefusal.{ImportRefusal}
 use Rattle.log_vgm.specs.declared.refusal.ImportRefusal.TheVariants.{BadHeader, BadCommand, TooLong, TooShort}
@@ -47,8 +47,7 @@ refusal_of a = refusal_in number_of a
 
 -- bytes written, or the number returned
 abbrev pub returned_of : Imported → ℕ
-returned_of (Ok written) = written
-returned_of (Err r) = number_returned r
+returned_of a = returned_in (λ (n : ℕ). n) number_returned a
 
 -- a number, or the most where it is above that
 abbrev pub capped : ℕ → ℕ → ℕ

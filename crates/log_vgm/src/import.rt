@@ -1,14 +1,13 @@
 // What the import of a file is answered: refusals 9, 10, 11 and 6 in that order, or its log.
 ghost use Rattle.std.specs.Prelude.{◌≡◌, length};
 ghost use Rattle.log_vgm.specs.Log.{log_of};
-ghost use Rattle.log_vgm.specs.Imports.{fitted, imported_of, returned_of, log_after};
+ghost use Rattle.log_vgm.specs.Imports.{fitted, imported_of, log_after};
 
 use crate::clockwork::starting;
 use crate::header::{bad_header, start_of};
 use crate::refusal::ImportRefusal;
 use crate::scan::scan;
 use crate::write::{OPENING, put_log};
-use log_scan::refusal::Refusal;
 
 // Refusals 11 and 6, of a log of so many bytes: 65,536 are the most.
 fn fit(room: usize, bytes: u32) -> Result<u64, ImportRefusal>
@@ -43,14 +42,4 @@ pub fn import_log(vgm: &[u8], log: &mut [u8]) -> Result<u64, ImportRefusal>
     let written = answer(vgm, log.len())?;
     put_log(vgm, starting(start_of(vgm)), log);
     Ok(written)
-}
-
-// Bytes written, or the number that a refusal returns.
-pub fn returned(answer: Result<u64, ImportRefusal>) -> u64
-    ensures { result ≡ returned_of answer }
-{
-    match answer {
-        Ok(written) => written,
-        Err(refusal) => refusal.returned(),
-    }
 }
