@@ -133,10 +133,9 @@ impl<C: Channel> Group<C> {
         ensures { result ≡ length_clocked C.kind self }
     {
         let clocked = self.length.clock_length_counter();
-        let channel = self.channel;
         let mut next = self;
         next.length = clocked.length;
-        next.channel = channel.set_enable(channel.is_on() & !clocked.off);
+        next.channel = self.channel.set_enable(self.channel.is_on() & !clocked.off);
         next
     }
 

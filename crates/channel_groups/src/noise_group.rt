@@ -99,13 +99,10 @@ impl NoiseGroup {
     pub fn read(self, at: u16) -> u8
         ensures { result ≡ byte_of self at }
     {
-        let length = self.length;
-        let channel = self.channel;
-        let envelope = channel.envelope;
         match at {
-            2 => envelope.read_envelope_register(),
-            3 => channel.read_noise_register(),
-            4 => control_byte(length),
+            2 => self.channel.envelope.read_envelope_register(),
+            3 => self.channel.read_noise_register(),
+            4 => control_byte(self.length),
             _ => 0xFF,
         }
     }
@@ -114,11 +111,8 @@ impl NoiseGroup {
     pub fn clock_envelope(self) -> NoiseGroup
         ensures { result ≡ envelope_clocked self }
     {
-        let mut channel = self.channel;
-        let envelope = channel.envelope;
-        channel.envelope = envelope.clock();
         let mut next = self;
-        next.channel = channel;
+        next.channel.envelope = self.channel.envelope.clock();
         next
     }
 

@@ -68,16 +68,12 @@ impl PulseGroup {
     fn write_length(self, power: bool, value: u8) -> PulseGroup
         ensures { result ≡ length_written self power value }
     {
-        let length = self.length;
-        let channel = self.channel;
         let mut next = self;
-        next.length = length.write_sound_length(value % 64);
+        next.length = self.length.write_sound_length(value % 64);
         if power {
-            next.channel = channel.write_pattern_duty(value / 64);
-            next
-        } else {
-            next
+            next.channel = self.channel.write_pattern_duty(value / 64);
         }
+        next
     }
 
     // FFx2: the envelope and the DAC.
@@ -93,9 +89,9 @@ impl PulseGroup {
     fn write_low(self, value: u8) -> PulseGroup
         ensures { result ≡ tuned self value }
     {
-        let channel = self.channel;
+        let frequency = low_written(self.channel.frequency, value);
         let mut next = self;
-        next.channel = channel.write_frequency(low_written(channel.frequency, value));
+        next.channel = self.channel.write_frequency(frequency);
         next
     }
 
@@ -117,13 +113,10 @@ impl PulseGroup {
     pub fn read(self, at: u16) -> u8
         ensures { result ≡ byte_of self at }
     {
-        let length = self.length;
-        let channel = self.channel;
-        let envelope = channel.envelope;
         match at {
-            1 => 0x3F + channel.duty % 4 * 64,
-            2 => envelope.read_envelope_register(),
-            4 => control_byte(length),
+            1 => 0x3F + self.channel.duty % 4 * 64,
+            2 => self.channel.envelope.read_envelope_register(),
+            4 => control_byte(self.length),
             _ => 0xFF,
         }
     }
@@ -142,11 +135,8 @@ impl PulseGroup {
     pub fn clock_envelope(self) -> PulseGroup
         ensures { result ≡ envelope_clocked self }
     {
-        let mut channel = self.channel;
-        let envelope = channel.envelope;
-        channel.envelope = envelope.clock();
         let mut next = self;
-        next.channel = channel;
+        next.channel.envelope = self.channel.envelope.clock();
         next
     }
 

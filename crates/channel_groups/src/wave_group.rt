@@ -87,9 +87,9 @@ impl WaveGroup {
     fn write_low(self, value: u8) -> WaveGroup
         ensures { result ≡ tuned self value }
     {
-        let channel = self.channel;
+        let frequency = low_written(self.channel.frequency, value);
         let mut next = self;
-        next.channel = channel.write_frequency(low_written(channel.frequency, value));
+        next.channel = self.channel.write_frequency(frequency);
         next
     }
 
@@ -121,12 +121,10 @@ impl WaveGroup {
     pub fn read(self, at: u16) -> u8
         ensures { result ≡ byte_of self at }
     {
-        let length = self.length;
-        let channel = self.channel;
         match at {
-            0 => 0x7F + flag(channel.dac_enable, 128),
-            2 => 0x9F + channel.volume % 4 * 32,
-            4 => control_byte(length),
+            0 => 0x7F + flag(self.channel.dac_enable, 128),
+            2 => 0x9F + self.channel.volume % 4 * 32,
+            4 => control_byte(self.length),
             _ => 0xFF,
         }
     }

@@ -11,7 +11,7 @@ use crate::reloads::reload_at;
 use channel_parts::envelope::Envelope;
 use ground::num::flag;
 
-#[derive(Clone, Copy)]
+#[derive(Clone, Copy, Default)]
 pub struct NoiseChannel {
     pub shift_clock_frequency: u8,
     pub step_mode_7_bits: bool,
@@ -29,17 +29,7 @@ impl NoiseChannel {
     pub fn new() -> NoiseChannel
         ensures { result ≡ fresh }
     {
-        let envelope = Envelope::new();
-        NoiseChannel {
-            shift_clock_frequency: 0,
-            step_mode_7_bits: false,
-            divisor_code: 0,
-            frequency_timer: 0,
-            feedback_shift_register: 0,
-            envelope,
-            channel_enabled: false,
-            dac_enable: false,
-        }
+        Self::default()
     }
 
     // A write to FF22.
@@ -66,9 +56,8 @@ impl NoiseChannel {
     pub fn write_envelope_register(self, value: u8) -> NoiseChannel
         ensures { result ≡ enveloped self value }
     {
-        let envelope = self.envelope;
         let mut next = self;
-        next.envelope = envelope.write_envelope_register(value);
+        next.envelope = self.envelope.write_envelope_register(value);
         next.set_dac_enable(8 <= value)
     }
 
@@ -141,9 +130,8 @@ impl NoiseChannel {
     pub fn trigger(self) -> NoiseChannel
         ensures { result ≡ triggered self }
     {
-        let envelope = self.envelope;
         let mut next = self;
-        next.envelope = envelope.trigger();
+        next.envelope = self.envelope.trigger();
         next.feedback_shift_register = 0x7FFF;
         next.channel_enabled = self.channel_enabled | self.dac_enable;
         next
@@ -160,16 +148,14 @@ impl NoiseChannel {
     pub fn output_at(self, phase: NoisePhase) -> u8
         ensures { result ≡ output_of (with_noise_phase self phase) }
     {
-        let volume = self.envelope.current_volume;
         let sounds = self.channel_enabled & (phase.feedback_shift_register % 2 == 0);
-        flag(sounds, volume)
+        flag(sounds, self.envelope.current_volume)
     }
 
     // Whether the converter stands still: channel off, or volume 0.
     pub fn muted(self) -> bool
         ensures { result ≡ muted_of self }
     {
-        let volume = self.envelope.current_volume;
-        !self.channel_enabled | (volume == 0)
+        !self.channel_enabled | (self.envelope.current_volume == 0)
     }
 }

@@ -5,7 +5,7 @@ ghost use Rattle.channel_parts.specs.Envelope.{fresh, written, byte_of, step_vol
 use ground::num::{flag, reload};
 
 #[repr(C)]
-#[derive(Clone, Copy)]
+#[derive(Clone, Copy, Default)]
 pub struct Envelope {
     pub starting_volume: u8,
     pub current_volume: u8,
@@ -39,14 +39,7 @@ impl Envelope {
     pub fn new() -> Envelope
         ensures { result ≡ fresh }
     {
-        Envelope {
-            starting_volume: 0,
-            current_volume: 0,
-            sweep_increase: false,
-            period: 0,
-            envelope_can_run: false,
-            counter: 0,
-        }
+        Self::default()
     }
 
     // A write to FFx2 sets the volume at once; whether the envelope runs stays as it was.
@@ -59,9 +52,9 @@ impl Envelope {
             starting_volume: volume,
             current_volume: volume,
             sweep_increase: value / 8 % 2 == 1,
-            period: period,
-            envelope_can_run: self.envelope_can_run,
+            period,
             counter: period,
+            ..self
         }
     }
 
@@ -78,12 +71,9 @@ impl Envelope {
     {
         let volume = step_volume(self.current_volume, self.sweep_increase);
         Envelope {
-            starting_volume: self.starting_volume,
             current_volume: volume,
-            sweep_increase: self.sweep_increase,
-            period: self.period,
             envelope_can_run: goes_on(volume),
-            counter: self.counter,
+            ..self
         }
     }
 
@@ -121,12 +111,10 @@ impl Envelope {
         ensures { result ≡ triggered self }
     {
         Envelope {
-            starting_volume: self.starting_volume,
             current_volume: self.starting_volume,
-            sweep_increase: self.sweep_increase,
-            period: self.period,
             envelope_can_run: true,
             counter: self.period,
+            ..self
         }
     }
 }

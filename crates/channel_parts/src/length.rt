@@ -40,10 +40,9 @@ impl Length {
     {
         let length = self.max_length.saturating_sub(value as u16);
         Length {
-            max_length: self.max_length,
-            length: length,
+            length,
             current_counter: length,
-            counter_decrease_enable: self.counter_decrease_enable,
+            ..self
         }
     }
 
@@ -52,10 +51,9 @@ impl Length {
         ensures { result ≡ reset self }
     {
         Length {
-            max_length: self.max_length,
             length: self.max_length,
             current_counter: self.max_length,
-            counter_decrease_enable: self.counter_decrease_enable,
+            ..self
         }
     }
 

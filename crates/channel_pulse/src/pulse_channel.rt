@@ -10,7 +10,7 @@ use crate::sweep::Sweep;
 use channel_parts::envelope::Envelope;
 use ground::num::flag;
 
-#[derive(Clone, Copy)]
+#[derive(Clone, Copy, Default)]
 pub struct PulseChannel {
     pub sweep: Sweep,
     // the step of the duty row that sounds, 0 to 7
@@ -42,30 +42,16 @@ impl PulseChannel {
     pub fn new() -> PulseChannel
         ensures { result ≡ fresh }
     {
-        let sweep = Sweep::new();
-        let envelope = Envelope::new();
-        PulseChannel {
-            sweep,
-            sequencer_position: 0,
-            duty: 0,
-            envelope,
-            frequency: 0,
-            frequency_timer: 0,
-            channel_enabled: false,
-            first_trigger: false,
-            dac_enable: false,
-        }
+        Self::default()
     }
 
     // A write to FF10, which may turn the channel off.
     pub fn write_sweep_register(self, value: u8) -> PulseChannel
         ensures { result ≡ sweep_written self value }
     {
-        let sweep = self.sweep;
-        let checked = sweep.write_sweep_register(value);
-        let after = checked.sweep;
+        let checked = self.sweep.write_sweep_register(value);
         let mut next = self;
-        next.sweep = after;
+        next.sweep = checked.sweep;
         next.channel_enabled = self.channel_enabled & !checked.off;
         next
     }
@@ -83,9 +69,8 @@ impl PulseChannel {
     pub fn write_envelope_register(self, value: u8) -> PulseChannel
         ensures { result ≡ enveloped self value }
     {
-        let envelope = self.envelope;
         let mut next = self;
-        next.envelope = envelope.write_envelope_register(value);
+        next.envelope = self.envelope.write_envelope_register(value);
         next.set_dac_enable(8 <= value)
     }
 
@@ -187,11 +172,9 @@ impl PulseChannel {
         requires { Held self }
         ensures { result ≡ sweep_clocked self }
     {
-        let sweep = self.sweep;
-        let swept = sweep.clock_sweeper(self.frequency);
-        let after = swept.sweep;
+        let swept = self.sweep.clock_sweeper(self.frequency);
         let mut next = self;
-        next.sweep = after;
+        next.sweep = swept.sweep;
         next.frequency = swept.frequency;
         next.channel_enabled = self.channel_enabled & !swept.off;
         next
@@ -202,21 +185,14 @@ impl PulseChannel {
         requires { Held self }
         ensures { result ≡ triggered self }
     {
-        let envelope = self.envelope;
-        let started = envelope.trigger();
-        let sweep = self.sweep;
-        let checked = sweep.sweep_trigger(self.frequency);
-        let after = checked.sweep;
+        let checked = self.sweep.sweep_trigger(self.frequency);
         PulseChannel {
-            sweep: after,
-            sequencer_position: self.sequencer_position,
-            duty: self.duty,
-            envelope: started,
-            frequency: self.frequency,
+            sweep: checked.sweep,
+            envelope: self.envelope.trigger(),
             frequency_timer: self.reload(),
             channel_enabled: (self.channel_enabled | self.dac_enable) & !checked.off,
             first_trigger: true,
-            dac_enable: self.dac_enable,
+            ..self
         }
     }
 
@@ -225,10 +201,10 @@ impl PulseChannel {
         requires { PulsePhaseHeld phase }
         ensures { result ≡ output_of (with_pulse_phase self phase) }
     {
-        let volume = self.envelope.current_volume;
         let row = duty_row(self.duty);
         let bit = (row >> (7 - phase.sequencer_position)) % 2;
-        flag(self.channel_enabled & (bit == 1), volume)
+        let sounds = self.channel_enabled & (bit == 1);
+        flag(sounds, self.envelope.current_volume)
     }
 
     // What goes to the converter.
@@ -243,7 +219,6 @@ impl PulseChannel {
     pub fn muted(self) -> bool
         ensures { result ≡ muted_of self }
     {
-        let volume = self.envelope.current_volume;
-        !self.channel_enabled | (volume == 0)
+        !self.channel_enabled | (self.envelope.current_volume == 0)
     }
 }

@@ -5,7 +5,7 @@ ghost use Rattle.channel_pulse.specs.Sweep.{clocked, sweep_started, triggered};
 
 use ground::num::{flag, reload};
 
-#[derive(Clone, Copy)]
+#[derive(Clone, Copy, Default)]
 pub struct Sweep {
     pub period: u8,
     pub current_time: u8,
@@ -37,15 +37,7 @@ impl Sweep {
     pub fn new() -> Sweep
         ensures { result ≡ fresh }
     {
-        Sweep {
-            period: 0,
-            current_time: 0,
-            internal_enable: false,
-            frequency_shadow: 0,
-            negate: false,
-            shift_n: 0,
-            calculation_happened: false,
-        }
+        Self::default()
     }
 
     // A write to FF10. Ending negate after a calculation turns the channel off.
@@ -113,9 +105,8 @@ impl Sweep {
         ensures { result ≡ checked self }
     {
         let found = self.sweep_calculation();
-        let sweep = found.sweep;
         Checked {
-            sweep: sweep,
+            sweep: found.sweep,
             off: found.off,
         }
     }
@@ -129,10 +120,9 @@ impl Sweep {
         let mut next = self;
         next.frequency_shadow = frequency;
         let again = next.check();
-        let sweep = again.sweep;
         Swept {
-            sweep: sweep,
-            frequency: frequency,
+            sweep: again.sweep,
+            frequency,
             off: again.off,
         }
     }
@@ -143,16 +133,11 @@ impl Sweep {
         ensures { result ≡ updated self frequency }
     {
         let first = self.sweep_calculation();
-        let sweep = first.sweep;
         let keep = (first.frequency <= 2047) & (self.shift_n != 0);
         if keep {
-            sweep.store(first.frequency)
+            first.sweep.store(first.frequency)
         } else {
-            Swept {
-                sweep: sweep,
-                frequency: frequency,
-                off: first.off,
-            }
+            Swept { frequency, ..first }
         }
     }
 
@@ -168,7 +153,7 @@ impl Sweep {
         } else {
             Swept {
                 sweep: next,
-                frequency: frequency,
+                frequency,
                 off: false,
             }
         }
@@ -186,7 +171,7 @@ impl Sweep {
         } else {
             Swept {
                 sweep: next,
-                frequency: frequency,
+                frequency,
                 off: false,
             }
         }
@@ -197,13 +182,11 @@ impl Sweep {
         ensures { result ≡ sweep_started self frequency }
     {
         Sweep {
-            period: self.period,
             current_time: reload(self.period),
             internal_enable: (self.period != 0) | (self.shift_n != 0),
             frequency_shadow: frequency,
-            negate: self.negate,
-            shift_n: self.shift_n,
             calculation_happened: false,
+            ..self
         }
     }
 

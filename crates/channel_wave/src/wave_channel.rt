@@ -7,7 +7,7 @@ ghost use Rattle.channel_wave.specs.Phase.{WavePhaseHeld, wave_phase_of, with_wa
 
 use crate::phase::WavePhase;
 
-#[derive(Clone, Copy)]
+#[derive(Clone, Copy, Default)]
 pub struct WaveChannel {
     pub volume: u8,
     // 0, not 4, until FF1C is first written
@@ -67,17 +67,7 @@ impl WaveChannel {
     pub fn new() -> WaveChannel
         ensures { result ≡ fresh }
     {
-        WaveChannel {
-            volume: 0,
-            volume_shift: 0,
-            frequency: 0,
-            buffer: [0u8; 16],
-            buffer_position: 0,
-            buffer_position_just_clocked: false,
-            frequency_timer: 0,
-            channel_enable: false,
-            dac_enable: false,
-        }
+        Self::default()
     }
 
     // The volume bits of FF1C, with their shift.
@@ -147,9 +137,8 @@ impl WaveChannel {
     pub fn read_buffer(self, dmg: bool, offset: u8) -> u8
         ensures { result ≡ byte_at self dmg offset }
     {
-        let buffer = self.buffer;
         match self.wave_buffer_index(dmg, offset) {
-            Some(i) => buffer[i],
+            Some(i) => self.buffer[i],
             None => 0xFF,
         }
     }
@@ -227,11 +216,10 @@ impl WaveChannel {
         requires { Held self }
         ensures { result ≡ buffer_at_trigger self dmg }
     {
-        let buffer = self.buffer;
         if dmg & (self.frequency_timer == 0) {
-            rewrite(buffer, self.buffer_position)
+            rewrite(self.buffer, self.buffer_position)
         } else {
-            buffer
+            self.buffer
         }
     }
 
@@ -240,9 +228,8 @@ impl WaveChannel {
         requires { Held self }
         ensures { result ≡ triggered self dmg }
     {
-        let buffer = self.buffer_at_trigger(dmg);
         let mut next = self;
-        next.buffer = buffer;
+        next.buffer = self.buffer_at_trigger(dmg);
         next.buffer_position = 0;
         next.frequency_timer = 2050 - self.frequency;
         next.channel_enable = self.channel_enable | self.dac_enable;
@@ -256,8 +243,7 @@ impl WaveChannel {
         ensures { result ≡ nibble_of (with_wave_phase self phase) }
     {
         let place = (phase.buffer_position / 2) as usize;
-        let buffer = self.buffer;
-        let byte = buffer[place];
+        let byte = self.buffer[place];
         if phase.buffer_position % 2 == 0 {
             byte / 16 % 16
         } else {

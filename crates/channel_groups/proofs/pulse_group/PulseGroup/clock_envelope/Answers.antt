@@ -4,4 +4,4 @@ use Rattle.channel_groups.proofs.pulse_group.PulseGroup.clock_envelope.Goals as 
 
 pub returns : goal.returns
 unfolding envelope_clocked
-returns c = rw c.clock-channel.ensures
+returns c = rw c.clock-next.ensures

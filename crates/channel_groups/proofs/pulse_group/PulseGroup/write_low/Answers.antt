@@ -4,4 +4,4 @@ use Rattle.channel_groups.proofs.pulse_group.PulseGroup.write_low.Goals as goal
 
 pub returns : goal.returns
 unfolding tuned
-returns c = rw (c.write_frequency-next.ensures, c.low_written.ensures)
+returns c = rw (c.write_frequency-next.ensures, c.low_written-frequency.ensures)

@@ -7,5 +7,5 @@ unfolding triggered
 returns c =
     let reload = c.reload in
     let sweep = c.sweep_trigger-checked in
-    let envelope = c.trigger-started in
+    let envelope = c.trigger in
     rw (reload.ensures, sweep.ensures, envelope.ensures)

@@ -4,8 +4,8 @@ use mathlib.Core.Path.{sym, ◌∙◌}
 use Rattle.channel_wave.proofs.Ranges.{index_lands}
 use Rattle.channel_wave.proofs.wave_channel.WaveChannel.read_buffer.Goals as goal
 
-pub bounds-buffer-i : goal.bounds-buffer-i
-bounds-buffer-i c =
+pub bounds-self-i : goal.bounds-self-i
+bounds-self-i c =
     let index = c.wave_buffer_index in
     let args = c.args in
     rw (sym index.ensures ∙ c.in-Some.is) at (index_lands args.self args.dmg args.offset)

@@ -4,4 +4,4 @@ use Rattle.channel_wave.proofs.wave_channel.WaveChannel.trigger.Goals as goal
 
 pub returns : goal.returns
 unfolding triggered
-returns c = rw c.buffer_at_trigger-buffer.ensures
+returns c = rw c.buffer_at_trigger-next.ensures
