@@ -101,7 +101,7 @@ fn fair(speed: u8, divider: Divider, count: u16) -> bool
         Divider::Standing { .. } => 0,
         Divider::Running { phase, .. } => phase,
     };
-    (speed <= 1) & ((phase <= 63) & ((1 <= count) & (count <= 16384)))
+    (speed <= 1) & ((phase <= 63) & (1..=16384).contains(&count))
 }
 
 // What a body of a clock record's length says after its kind, where it is in its ranges: double speed or not, divider and count.
