@@ -21,10 +21,7 @@ pub const FRAME_BYTES: usize = 41;
 fn swapped(word: u32) -> u32
     ensures { result ≡ swapped_of word }
 {
-    word / 0x100_0000
-        + word / 0x1_0000 % 256 * 0x100
-        + word / 0x100 % 256 * 0x1_0000
-        + word % 256 * 0x100_0000
+    word.swap_bytes()
 }
 
 // A number of four bytes, the high one first: of the turned number, the low one.
