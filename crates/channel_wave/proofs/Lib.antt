@@ -1,3 +1,4 @@
 -- The laws of the wave channel. Assumes nothing.
 pub mod Ranges
 pub mod Phases
+pub mod Copies

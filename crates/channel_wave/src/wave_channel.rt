@@ -41,10 +41,7 @@ fn copy_four(buffer: [u8; 16], start: usize) -> [u8; 16]
     ensures { result ≡ four_from buffer start }
 {
     let mut next = buffer;
-    next[0] = buffer[start];
-    next[1] = buffer[start + 1];
-    next[2] = buffer[start + 2];
-    next[3] = buffer[start + 3];
+    next[..4].copy_from_slice(&buffer[start..start + 4]);
     next
 }
 

@@ -2,7 +2,7 @@
 ghost use Rattle.std.specs.Prelude.{◌≡◌, ◌+◌, ◌-◌, ◌≤◌, length, replicate};
 ghost use Rattle.std.proofs.lemmas.List.Edits.{sets};
 ghost use Rattle.frame.specs.Held.{Numbers};
-ghost use Rattle.log_items.specs.Items.{be32, swapped_of, sides_bytes, read_item, pcm_item, mix_item, frame_length, Known, silence};
+ghost use Rattle.log_items.specs.Items.{be32, sides_bytes, read_item, pcm_item, mix_item, frame_length, Known, silence};
 
 use frame::mixing::{Mix, Sides};
 
@@ -16,23 +16,13 @@ pub const FRAME: u8 = 0x46;
 // How many bytes a frame's item has.
 pub const FRAME_BYTES: usize = 41;
 
-// The number with its four bytes in the other order. Stored low byte first it is a single store, and the compiler stores four such numbers at once; the
-// number itself, stored high byte first, it would take apart byte by byte.
-fn swapped(word: u32) -> u32
-    ensures { result ≡ swapped_of word }
-{
-    word / 0x100_0000
-        + word / 0x1_0000 % 256 * 0x100
-        + word / 0x100 % 256 * 0x1_0000
-        + word % 256 * 0x100_0000
-}
-
-// A number of four bytes, the high one first: of the turned number, the low one.
+// A number of four bytes, the high one first: of the turned number, the low one. (Stored low byte first it is a single store, and the compiler stores four such
+// numbers at once; the number itself, stored high byte first, it would take apart byte by byte.)
 fn put_word(out: &mut [u8], at: usize, word: u32)
     requires { at + 4 ≤ length out.old }
     ensures { out.new ≡ sets out.old at (be32 word) }
 {
-    let turned = swapped(word);
+    let turned = word.swap_bytes();
     out[at] = (turned % 256) as u8;
     out[at + 1] = (turned / 0x100 % 256) as u8;
     out[at + 2] = (turned / 0x1_0000 % 256) as u8;

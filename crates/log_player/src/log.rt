@@ -41,7 +41,7 @@ pub fn answer_on(apu: Apu, log: &[u8], room: usize) -> LogAnswer
 pub fn start_byte(log: &[u8]) -> u8
     ensures { result ≡ get_or log.now 1 0 }
 {
-    if 1 < log.len() { log[1] } else { 0 }
+    log.get(1).copied().unwrap_or(0)
 }
 
 // Plays a log into the output, or refuses it and writes nothing.

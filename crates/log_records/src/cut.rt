@@ -30,5 +30,5 @@ pub fn cut_at(log: &[u8], at: usize) -> Result<Option<usize>, CutShort>
 pub fn version_of(log: &[u8]) -> u8
     ensures { result ≡ version_of log.now }
 {
-    if 0 < log.len() { log[0] } else { 0 }
+    log.first().copied().unwrap_or(0)
 }

@@ -1,8 +1,10 @@
 // The judge of a record's body: a part of the log, which starts in its middle.
-ghost use Rattle.std.specs.Prelude.{◌≡◌, ◌+◌, ◌<◌, ◌≤◌, length};
-ghost use Rattle.log_records.specs.Judge.{word, write_of, read_of, clock_length, divider_in, fair_of, clock_of, pcm_of, judge_of, clocks_of};
+ghost use Rattle.std.specs.Prelude.{◌≡◌, ◌+◌, ◌*◌, ◌<◌, ◌≤◌, length, Ok, Err};
+ghost use Rattle.log_records.specs.Judge.{word, clock_length, divider_in, fair_of, clock_of, clock_said, judge_of, clocks_of};
 ghost use Rattle.log_records.specs.Divider.{phase_of};
 ghost use Rattle.log_records.specs.Records.{clocks_at};
+ghost use Rattle.ground.specs.Pick.{pick};
+ghost use Rattle.ground.specs.Num.{is_sound};
 
 use crate::divider::Divider;
 use ground::num::is_sound;
@@ -37,34 +39,13 @@ pub fn word_at(bytes: &[u8], i: usize) -> u16
     u16::from_be_bytes([bytes[i], bytes[i + 1]])
 }
 
-// Kind 01: address and data.
-fn judge_write(body: &[u8]) -> Result<Record, WrongRecord>
-    ensures { result ≡ write_of body.now }
+// The address that two bytes of a body say, the high one first, where it is the sound unit's.
+fn address_of(high: u8, low: u8) -> Result<u16, WrongRecord>
+    ensures { result ≡ pick (is_sound (high * 256 + low)) (Ok (high * 256 + low)) (Err (record {})) }
 {
-    if body.len() != 4 {
-        return Err(WrongRecord);
-    }
-    let addr = word_at(body, 1);
+    let addr = u16::from_be_bytes([high, low]);
     if is_sound(addr) {
-        Ok(Record::Write {
-            addr,
-            value: body[3],
-        })
-    } else {
-        Err(WrongRecord)
-    }
-}
-
-// Kind 02: address.
-fn judge_read(body: &[u8]) -> Result<Record, WrongRecord>
-    ensures { result ≡ read_of body.now }
-{
-    if body.len() != 3 {
-        return Err(WrongRecord);
-    }
-    let addr = word_at(body, 1);
-    if is_sound(addr) {
-        Ok(Record::Read { addr })
+        Ok(addr)
     } else {
         Err(WrongRecord)
     }
@@ -101,29 +82,38 @@ fn fair(speed: u8, divider: Divider, count: u16) -> bool
         Divider::Standing { .. } => 0,
         Divider::Running { phase, .. } => phase,
     };
-    (speed <= 1) & ((phase <= 63) & ((1 <= count) & (count <= 16384)))
+    (speed <= 1) & ((phase <= 63) & (1..=16384).contains(&count))
+}
+
+// What a body of a clock record's length says after its kind, where it is in its ranges: double speed or not, divider and count.
+fn clock_in(version: u8, body: &[u8]) -> Option<(bool, Divider, u16)>
+    requires { length body.now ≡ clock_length version }
+    ensures { clock_said result ≡ clock_of version body.now }
+{
+    let length = clock_length(version);
+    let speed = body[1];
+    let divider = divider_in(version, body);
+    let count = word_at(body, length - 2);
+    if fair(speed, divider, count) {
+        Some((speed == 1, divider, count))
+    } else {
+        None
+    }
 }
 
 // Kind 03: speed, divider and count.
 fn judge_clock(version: u8, body: &[u8]) -> Result<Record, WrongRecord>
     ensures { result ≡ clock_of version body.now }
 {
-    let length = clock_length(version);
-    if body.len() != length {
+    if body.len() != clock_length(version) {
         return Err(WrongRecord);
     }
-    let speed = body[1];
-    let divider = divider_in(version, body);
-    let count = word_at(body, length - 2);
-    if fair(speed, divider, count) {
-        Ok(Record::Clock {
-            double: speed == 1,
-            divider,
-            count,
-        })
-    } else {
-        Err(WrongRecord)
-    }
+    let (double, divider, count) = clock_in(version, body).ok_or(WrongRecord)?;
+    Ok(Record::Clock {
+        double,
+        divider,
+        count,
+    })
 }
 
 // A clock record and the place after it.
@@ -140,19 +130,16 @@ fn clocks_in(version: u8, body: &[u8], end: usize) -> Option<Clocks>
     requires { length body.now ≡ clock_length version }
     ensures { result ≡ clocks_of end (judge_of version body.now) }
 {
-    let length = clock_length(version);
-    let speed = body[1];
-    let divider = divider_in(version, body);
-    let count = word_at(body, length - 2);
-    if (body[0] == 3) & fair(speed, divider, count) {
-        return Some(Clocks {
-            double: speed == 1,
-            divider,
-            count,
-            end,
-        });
+    if body[0] != 3 {
+        return None;
     }
-    None
+    let (double, divider, count) = clock_in(version, body)?;
+    Some(Clocks {
+        double,
+        divider,
+        count,
+        end,
+    })
 }
 
 // The clock record at a place of a log of this version, if one stands there.
@@ -186,30 +173,25 @@ pub fn clocks_at(version: u8, log: &[u8], at: usize) -> Option<Clocks>
     }
 }
 
-// Kind 04: both PCM reads.
-fn judge_pcm(body: &[u8]) -> Result<Record, WrongRecord>
-    ensures { result ≡ pcm_of body.now }
-{
-    if body.len() == 1 {
-        Ok(Record::Pcm)
-    } else {
-        Err(WrongRecord)
-    }
-}
-
 // What a body says in a log of a version, by its kind. (Called, and not compiled into its callers, a scan of writes took half as long again.)
 #[inline]
 pub fn judge(version: u8, body: &[u8]) -> Result<Record, WrongRecord>
     ensures { result ≡ judge_of version body.now }
 {
-    if body.len() == 0 {
-        return Err(WrongRecord);
-    }
-    match body[0] {
-        1 => judge_write(body),
-        2 => judge_read(body),
-        3 => judge_clock(version, body),
-        4 => judge_pcm(body),
+    match body {
+        [1, high, low, value] => {
+            let addr = address_of(*high, *low)?;
+            Ok(Record::Write {
+                addr,
+                value: *value,
+            })
+        }
+        [2, high, low] => {
+            let addr = address_of(*high, *low)?;
+            Ok(Record::Read { addr })
+        }
+        [3, ..] => judge_clock(version, body),
+        [4] => Ok(Record::Pcm),
         _ => Err(WrongRecord),
     }
 }

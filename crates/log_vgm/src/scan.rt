@@ -13,12 +13,7 @@ fn wait_bytes(calls: u32) -> u32
     requires { calls < 0x40_0000 }
     ensures { (result ≡ wait_bytes calls) × (result ≤ 2056) }
 {
-    let wholes = calls / 16384 * 8;
-    if calls % 16384 == 0 {
-        wholes
-    } else {
-        wholes + 8
-    }
+    calls.div_ceil(16384) * 8
 }
 
 // The bytes of a command's records.

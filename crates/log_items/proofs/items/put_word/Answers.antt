@@ -1,6 +1,8 @@
 -- Four stores in a row are a run of stores, of the word's own bytes. Assumes nothing.
+use mathlib.Core.Path.{◌≡◌}
 use native.Mathlib.Omega.{arith}
 use lib.ListN.{length-set}
+use Rattle.log_items.specs.Items.{swapped_of}
 use Rattle.log_items.proofs.Words.{stored_word}
 use Rattle.log_items.proofs.items.put_word.Goals as goal
 
@@ -16,4 +18,5 @@ bounds-out-at-4 c = simp length-set (omega arith)
 pub returns : goal.returns
 returns c =
     let args = c.args in
-    stored_word args.out.now args.at c.swapped-turned.result args.word (omega arith) c.swapped-turned.ensures
+    let turned : c.swap_bytes-turned.result ≡ swapped_of args.word = omega (arith, c.swap_bytes-turned.ensures) in
+    stored_word args.out.now args.at c.swap_bytes-turned.result args.word (omega arith) turned
