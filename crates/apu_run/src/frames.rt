@@ -102,11 +102,8 @@ pub fn sound(unit: Apu, count: u32, out: &mut [u8], start: usize) -> Parts
 pub fn silent(unit: Apu) -> bool
     ensures { result ≡ silent_of unit }
 {
-    let pulse1 = unit.pulse1.channel;
-    let pulse2 = unit.pulse2.channel;
-    let wave = unit.wave.channel;
-    let noise = unit.noise.channel;
-    pulse1.muted() & (pulse2.muted() & (wave.muted() & noise.muted()))
+    unit.pulse1.channel.muted()
+        & (unit.pulse2.channel.muted() & (unit.wave.channel.muted() & unit.noise.channel.muted()))
 }
 
 // The same as `sound`, of a unit whose channels are all muted: every frame is silence, and the channels' clocks all wait to the end. (As a function of its own:

@@ -17,7 +17,7 @@ use channel_pulse::phase::PulsePhase;
 use channel_pulse::pulse_channel::PulseChannel;
 
 // Each channel's output by 15.
-#[derive(Clone, Copy)]
+#[derive(Clone, Copy, Default)]
 pub struct Levels {
     pub pulse1: f32,
     pub pulse2: f32,
@@ -28,12 +28,7 @@ pub struct Levels {
 pub fn no_levels() -> Levels
     ensures { result ≡ no_levels }
 {
-    Levels {
-        pulse1: 0.0,
-        pulse2: 0.0,
-        wave: 0.0,
-        noise: 0.0,
-    }
+    Levels::default()
 }
 
 // An output as a float, by its bits: 2^23 and the number, less 2^23. (The machine's own conversion can wait for what its register held before, and so each

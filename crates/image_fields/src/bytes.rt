@@ -1,5 +1,5 @@
 // Numbers as bytes, the high one first, into lent bytes and out of them.
-ghost use Rattle.std.specs.Prelude.{◌≡◌, [], ◌∷◌, ◌+◌, ◌<◌, ◌≤◌, length};
+ghost use Rattle.std.specs.Prelude.{◌≡◌, [], ◌∷◌, ◌+◌, ◌≤◌, length};
 ghost use Rattle.image_fields.specs.Bytes.{stored, row, bit_of, be2, be4, be8, two_at, four_at, eight_at};
 
 // A yes as 1, a no as 0.
@@ -7,13 +7,6 @@ pub fn bit(b: bool) -> u8
     ensures { result ≡ bit_of b }
 {
     if b { 1 } else { 0 }
-}
-
-// A byte as a wider number.
-pub fn wide(x: u8) -> u16
-    ensures { (result ≡ x) × (result < 256) }
-{
-    x as u16
 }
 
 // A row of bytes.

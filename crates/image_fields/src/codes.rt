@@ -3,15 +3,12 @@ ghost use Rattle.std.specs.Prelude.{◌≡◌};
 ghost use Rattle.clocks.specs.Position.{PositionHeld};
 ghost use Rattle.image_fields.specs.Codes.{position_byte, position_of, shift_fits};
 
-use crate::bytes::wide;
-use clocks::position::next_position;
-
-// A sequencer position as a byte, -1 as FF: one less than the next position, in eight bits.
+// A sequencer position as a byte, -1 as FF.
 pub fn position_byte(position: i8) -> u8
     requires { PositionHeld position }
     ensures { result ≡ position_byte position }
 {
-    ((wide(next_position(position)) + 255) % 256) as u8
+    position.cast_unsigned()
 }
 
 // The sequencer position of a byte: -1 for any above 7.
@@ -28,8 +25,5 @@ pub fn position_at(byte: u8) -> i8
 pub fn shift_fits(volume: u8, shift: u8) -> bool
     ensures { result ≡ shift_fits volume shift }
 {
-    ((volume == 0) & ((shift == 4) | (shift == 0)))
-        | ((volume == 1) & (shift == 0))
-        | ((volume == 2) & (shift == 1))
-        | ((volume == 3) & (shift == 2))
+    matches!((volume, shift), (0, 4 | 0) | (1, 0) | (2, 1) | (3, 2))
 }

@@ -11,10 +11,10 @@ const FIELD: u64 = 4503599627370496;
 pub fn pattern64(x: f64) -> u64
     ensures { result ≡ to_bits binary64 x }
 {
-    if x != x {
+    if x.is_nan() {
         return 0x7FF8_0000_0000_0000;
     }
-    f64::to_bits(x)
+    x.to_bits()
 }
 
 // The capacitor of a pattern, 0 where no capacitor has it: 3F800000 is that of 1.0, and of floats without a sign the patterns have the order of the values.
@@ -46,10 +46,7 @@ pub fn kept(pattern: u64, places: u64, frame: u64) -> bool
     if field == 0 {
         return digits == 0;
     }
-    if field < 1023 - places {
-        return false;
-    }
-    if 1075 - places < field {
+    if !(1023 - places..=1075 - places).contains(&field) {
         return false;
     }
     let unit = power(1075 - places - field);

@@ -9,7 +9,7 @@ use log_scan::answer::{LogRefusal, Played};
 use log_scan::refusal::Refusal;
 
 // Why a log on a kept unit was refused.
-#[derive(Clone, Copy)]
+#[derive(Clone, Copy, Debug, PartialEq, Eq)]
 pub enum ImageRefusal {
     WrongImage,
     Log(LogRefusal),

@@ -10,7 +10,7 @@ use log_player::play::start;
 use log_scan::refusal::Refusal;
 
 // Why making one was refused: 4 for a start byte above 3, or 8 with the bytes needed, tried in that order.
-#[derive(Clone, Copy)]
+#[derive(Clone, Copy, Debug, PartialEq, Eq)]
 pub enum MakeRefusal {
     BadStart,
     TooShort { needed: u64 },

@@ -62,10 +62,9 @@ pub fn reckon(
         let Some(clocks) = clocks_at(version, log, r.at) else {
             return r;
         };
-        let divider = clocks.divider;
         let count = clocks.count as u32;
-        let some = same_bit(clocks.double, divider, r.call, count - r.call);
-        let bit = sequencer_bit(clocks.double, divider_at(divider, r.call));
+        let some = same_bit(clocks.double, clocks.divider, r.call, count - r.call);
+        let bit = sequencer_bit(clocks.double, divider_at(clocks.divider, r.call));
         let met = meet(r.half, power, r.stored, clocks.double, bit, some);
         r.half = met.half;
         r.call += some;

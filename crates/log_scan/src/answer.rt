@@ -26,7 +26,7 @@ pub struct Played {
 }
 
 // Why a log was refused.
-#[derive(Clone, Copy)]
+#[derive(Clone, Copy, Debug, PartialEq, Eq)]
 pub enum LogRefusal {
     TooLong,
     BadStart,

@@ -36,10 +36,10 @@ fn write_frame(text: &mut impl Write, frame: &[u8; FRAME_BYTES]) -> io::Result<(
 }
 
 // The line of a read, R with its address and the byte, or of both PCM reads, P and two bytes; a write has none.
-pub fn print_item(text: &mut impl Write, item: &[u8], addr: u16) {
-    let _ = match item {
-        [READ, byte] => writeln!(text, "R {addr:04X} {byte:02X}"),
-        [PCM, pcm12, pcm34] => writeln!(text, "P {pcm12:02X} {pcm34:02X}"),
+pub fn print_item(text: &mut impl Write, item: &[u8], addr: Option<u16>) {
+    let _ = match (item, addr) {
+        ([READ, byte], Some(addr)) => writeln!(text, "R {addr:04X} {byte:02X}"),
+        ([PCM, pcm12, pcm34], _) => writeln!(text, "P {pcm12:02X} {pcm34:02X}"),
         _ => Ok(()),
     };
 }

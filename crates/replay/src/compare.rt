@@ -12,19 +12,16 @@ pub fn untouched(out: &[u8]) -> bool {
     out.iter().all(|byte| *byte == FILL)
 }
 
-// A digit more of a number in base 257, by its remainder of a prime.
-fn first_remainder(n: u32, digit: u8) -> u32 {
-    ((u64::from(n) * 257 + u64::from(digit) + 1) % 4_294_967_291) as u32
+// A number's remainder by the prime that is so much less than 2^32: its digits in a base are the bytes, each by 1 more.
+fn remainder<const BASE: u32, const LESS: u32>(bytes: &[u8]) -> [u8; 4] {
+    let remainder = bytes.iter().fold(0, |n, byte| {
+        let longer = u64::from(n) * u64::from(BASE) + u64::from(*byte) + 1;
+        (longer % (0x1_0000_0000 - u64::from(LESS))) as u32
+    });
+    remainder.to_be_bytes()
 }
 
-// The same in base 65599, of another prime.
-fn second_remainder(n: u32, digit: u8) -> u32 {
-    ((u64::from(n) * 65_599 + u64::from(digit) + 1) % 4_294_967_279) as u32
-}
-
-// Both remainders of the bytes.
+// Two such remainders of the bytes.
 pub fn digest(bytes: &[u8]) -> [[u8; 4]; 2] {
-    let first = bytes.iter().fold(0, |n, byte| first_remainder(n, *byte));
-    let second = bytes.iter().fold(0, |n, byte| second_remainder(n, *byte));
-    [first.to_be_bytes(), second.to_be_bytes()]
+    [remainder::<257, 5>(bytes), remainder::<65_599, 17>(bytes)]
 }

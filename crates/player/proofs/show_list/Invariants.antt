@@ -5,8 +5,8 @@ use Rattle.log_records.specs.Records.{records_from, unrolled, listed_as}
 use Rattle.player.proofs.Showing.{Showing}
 use Rattle.player.proofs.show_list.Given as goal
 
-abbrev pub invariant-loop-next : goal.invariant-loop-next
-invariant-loop-next g l = Showing (listed_as l.version l.log) l.fn.apu (unrolled (records_from l.version l.log l.at)) l.next
+abbrev pub invariant-loop-len : goal.invariant-loop-len
+invariant-loop-len g l = Showing (listed_as l.version l.log) l.fn.apu (unrolled (records_from l.version l.log l.at)) l.next
 
-abbrev pub decreases-loop-next : goal.decreases-loop-next
-decreases-loop-next g l = length l.log - l.at
+abbrev pub decreases-loop-len : goal.decreases-loop-len
+decreases-loop-len g l = length l.log - l.at

@@ -1,12 +1,20 @@
--- The tests are the definition's own. Assumes nothing.
-use Rattle.image_fields.specs.Codes.{shift_fits}
+-- The rows are the definition's tests. Assumes nothing.
 use borrow.Author.Rules.{rules}
+use Rattle.image_fields.specs.Codes.{shift_fits}
 use Rattle.image_fields.proofs.codes.shift_fits.Statement.{statement}
 use Rattle.image_fields.proofs.codes.shift_fits.Tie as tie
 
-returns : tie.Need-returns
-unfolding shift_fits
-returns c = search rules
-
 pub shift_fits_spec : {M : Type 1} → statement M
-shift_fits_spec = tie.close (tie.spec returns)
+unfolding shift_fits
+shift_fits_spec =
+    tie.close
+    (tie.spec
+    (λ c. search rules)
+    (λ c. search rules)
+    (λ c. search rules)
+    (λ c. search rules)
+    (λ c. search rules)
+    (λ c. search rules)
+    (λ c. search rules)
+    (λ c. search rules)
+    (λ c. search rules))

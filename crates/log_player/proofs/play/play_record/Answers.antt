@@ -16,8 +16,8 @@ returned_is : (r : Result ℕ WrongAddress) → result_unwrap_or r 0 ≡ returne
 returned_is (Ok b) = refl
 returned_is (Err wrong) = refl
 
-pub write_register-written-requires : goal.write_register-written-requires
-write_register-written-requires c = c.requires.held
+pub write_register-requires : goal.write_register-requires
+write_register-requires c = c.requires.held
 
 pub put_read-requires : goal.put_read-requires
 put_read-requires c =
@@ -61,7 +61,7 @@ overflow_add-result-in-Ok-Pcm c =
 
 pub returns-in-Ok-Write : goal.returns-in-Ok-Write
 returns-in-Ok-Write c =
-    let write = c.write_register-written in
+    let write = c.write_register in
     let a = c.args in
     let is = sym (rw c.in-Ok-Write.field-0-is at c.in-Ok-Write.ensures) in
     let made =
