@@ -1,6 +1,6 @@
 -- What is known of a record that the judge takes. Assumes nothing.
 use Prim.Native.Nat.{ℕ, ◌≤◌}
-use mathlib.Core.Path.{◌≡◌, refl, sym, ◌∙◌, ap, subst}
+use mathlib.Core.Path.{◌≡◌, refl, sym, ap, subst}
 use mathlib.Core.List.{List}
 use mathlib.Core.Bool.{Bool, true, false, ◌&&◌}
 use native.Mathlib.Omega.{arith}
@@ -57,7 +57,7 @@ pub clock_long : (version : ℕ) → (5 ≤ clock_length version) × (clock_leng
 unfolding clock_length
 clock_long v = both_ways (λ (n : ℕ). (5 ≤ n) × (n ≤ 6)) _ (omega arith, omega arith) (omega arith, omega arith)
 
-pub other_kind : (end version : ℕ) (s : List ℕ) → eqb (get_or s 0 0) 3 ≡ false → clocks_of end (judge_of version s) ≡ None
+other_kind : (end version : ℕ) (s : List ℕ) → eqb (get_or s 0 0) 3 ≡ false → clocks_of end (judge_of version s) ≡ None
 unfolding judge_of write_of read_of pcm_of
 other_kind end v s e =
     both_ways NoClocks _ refl
@@ -75,8 +75,22 @@ module _ (end v : ℕ) (s : List ℕ) (long : length s ≡ clock_length v) where
       let some : length s ≡ 0 → ⊥ = λ z. omega (arith, clock_long v, long, z) in
       rw (ne_eqb (length s) 0 some, eqb-true (get_or s 0 0) 3 e)
 
-  pub clocks_by : {r : Judged} → eqb (get_or s 0 0) 3 ≡ true → r ≡ clock_of v s → clocks_of end r ≡ clocks_of end (judge_of v s)
-  clocks_by k e = ap (clocks_of end) (e ∙ sym (clock-kind k))
+  abbrev fair : Bool
+  fair = fair_of (get_or s 1 0) (phase_of (divider_in v s)) (count_in v s)
+
+  pub clocks_right : (eqb (get_or s 0 0) 3 && fair) ≡ true
+      → clocks_of end (judge_of v s) ≡ Some (record { double = eqb (get_or s 1 0) 1; divider = divider_in v s; count = count_in v s; end = end })
+  unfolding clock_of pick
+  clocks_right e =
+      rw (clock-kind (and_left (eqb (get_or s 0 0) 3) fair e), eq-eqb _ _ long, and_right (eqb (get_or s 0 0) 3) fair e)
+
+  pub clocks_none : (eqb (get_or s 0 0) 3 && fair) ≡ false → clocks_of end (judge_of v s) ≡ None
+  unfolding clock_of pick
+  clocks_none e = go (eqb (get_or s 0 0) 3) refl e
+    where
+      go : (b : Bool) → eqb (get_or s 0 0) 3 ≡ b → (b && fair) ≡ false → clocks_of end (judge_of v s) ≡ None
+      go true k h = rw (clock-kind k, eq-eqb _ _ long, h)
+      go false k h = other_kind end v s k
 
 -- ---- and the record that it is
 pub clock_is : (end : ℕ) (r : Judged) {c : Clocks} → clocks_of end r ≡ Some c → r ≡ Ok (Clock c.double c.divider c.count)

@@ -54,11 +54,6 @@ clock_of version s =
     (pick (fair_of (get_or s 1 0) (phase_of divider) count) (Ok (Clock (eqb (get_or s 1 0) 1) divider count)) wrong)
     wrong
 
--- (for the code alone) what it is judged as by what it says, where that is in its ranges: double speed or not, divider and count
-abbrev pub clock_said : Option (Bool × Divider × ℕ) → Judged
-clock_said (Some (double, divider, count)) = Ok (Clock double divider count)
-clock_said None = wrong
-
 -- "04 both PCM reads (1)"
 unfoldable pub pcm_of : List ℕ → Judged
 pcm_of s = pick (eqb (length s) 1) (Ok Pcm) wrong

@@ -2,8 +2,6 @@
 ghost use Rattle.std.specs.Prelude.{◌≡◌};
 ghost use Rattle.log_records.specs.Records.{cut_at, version_of};
 
-use crate::judge::word_at;
-
 // Refusal 5: the log ends within a record.
 #[derive(Clone, Copy)]
 pub struct CutShort;
@@ -12,18 +10,20 @@ pub struct CutShort;
 pub fn cut_at(log: &[u8], at: usize) -> Result<Option<usize>, CutShort>
     ensures { result ≡ cut_at log.now at }
 {
-    let n = log.len();
-    if n <= at {
+    let Some(rest) = log.get(at..) else {
         return Ok(None);
+    };
+    match rest {
+        [high, low, after @ ..] => {
+            let len = u16::from_be_bytes([*high, *low]) as usize;
+            if after.len() < len {
+                return Err(CutShort);
+            }
+            Ok(Some(len))
+        }
+        [_] => Err(CutShort),
+        [] => Ok(None),
     }
-    if n - at < 2 {
-        return Err(CutShort);
-    }
-    let len = word_at(log, at) as usize;
-    if n - at - 2 < len {
-        return Err(CutShort);
-    }
-    Ok(Some(len))
 }
 
 // A log's version; 0 where it has none, and is refused.

@@ -1,6 +1,6 @@
 // The judge of a record's body: a part of the log, which starts in its middle.
 ghost use Rattle.std.specs.Prelude.{◌≡◌, ◌+◌, ◌*◌, ◌<◌, ◌≤◌, length, Ok, Err};
-ghost use Rattle.log_records.specs.Judge.{word, clock_length, divider_in, fair_of, clock_of, clock_said, judge_of, clocks_of};
+ghost use Rattle.log_records.specs.Judge.{word, clock_length, divider_in, fair_of, clock_of, judge_of, clocks_of};
 ghost use Rattle.log_records.specs.Divider.{phase_of};
 ghost use Rattle.log_records.specs.Records.{clocks_at};
 ghost use Rattle.ground.specs.Pick.{pick};
@@ -82,38 +82,29 @@ fn fair(speed: u8, divider: Divider, count: u16) -> bool
         Divider::Standing { .. } => 0,
         Divider::Running { phase, .. } => phase,
     };
-    (speed <= 1) & ((phase <= 63) & (1..=16384).contains(&count))
-}
-
-// What a body of a clock record's length says after its kind, where it is in its ranges: double speed or not, divider and count.
-fn clock_in(version: u8, body: &[u8]) -> Option<(bool, Divider, u16)>
-    requires { length body.now ≡ clock_length version }
-    ensures { clock_said result ≡ clock_of version body.now }
-{
-    let length = clock_length(version);
-    let speed = body[1];
-    let divider = divider_in(version, body);
-    let count = word_at(body, length - 2);
-    if fair(speed, divider, count) {
-        Some((speed == 1, divider, count))
-    } else {
-        None
-    }
+    (speed <= 1) & ((phase <= 63) & ((1 <= count) & (count <= 16384)))
 }
 
 // Kind 03: speed, divider and count.
 fn judge_clock(version: u8, body: &[u8]) -> Result<Record, WrongRecord>
     ensures { result ≡ clock_of version body.now }
 {
-    if body.len() != clock_length(version) {
+    let length = clock_length(version);
+    if body.len() != length {
         return Err(WrongRecord);
     }
-    let (double, divider, count) = clock_in(version, body).ok_or(WrongRecord)?;
-    Ok(Record::Clock {
-        double,
-        divider,
-        count,
-    })
+    let speed = body[1];
+    let divider = divider_in(version, body);
+    let count = word_at(body, length - 2);
+    if fair(speed, divider, count) {
+        Ok(Record::Clock {
+            double: speed == 1,
+            divider,
+            count,
+        })
+    } else {
+        Err(WrongRecord)
+    }
 }
 
 // A clock record and the place after it.
@@ -130,16 +121,19 @@ fn clocks_in(version: u8, body: &[u8], end: usize) -> Option<Clocks>
     requires { length body.now ≡ clock_length version }
     ensures { result ≡ clocks_of end (judge_of version body.now) }
 {
-    if body[0] != 3 {
-        return None;
+    let length = clock_length(version);
+    let speed = body[1];
+    let divider = divider_in(version, body);
+    let count = word_at(body, length - 2);
+    if (body[0] == 3) & fair(speed, divider, count) {
+        return Some(Clocks {
+            double: speed == 1,
+            divider,
+            count,
+            end,
+        });
     }
-    let (double, divider, count) = clock_in(version, body)?;
-    Some(Clocks {
-        double,
-        divider,
-        count,
-        end,
-    })
+    None
 }
 
 // The clock record at a place of a log of this version, if one stands there.

@@ -1,7 +1,7 @@
 -- Its two bytes say which case holds. Assumes nothing.
 use Rattle.ground.specs.Pick.{pick}
 use Rattle.log_records.proofs.judge.address_of.Goals as goal
-use mathlib.Core.Path.{sym, ◌∙◌, ap}
+use mathlib.Core.Path.{sym, ◌∙◌}
 
 pub returns-then-is_sound : goal.returns-then-is_sound
 unfolding pick

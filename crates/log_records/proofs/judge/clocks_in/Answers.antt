@@ -1,22 +1,29 @@
--- The kind, and what a body of this length says, say whether it is one. Assumes nothing.
+-- The kind, the speed, the phase and the count say whether it is one. Assumes nothing.
 use mathlib.Core.Path.{sym}
-use native.Mathlib.Omega.{arith}
-use borrow.Author.Tests.{eq-eqb, ne_eqb}
-use Rattle.log_records.proofs.Judged.{clock_long, clocks_by, other_kind}
+use Rattle.log_records.proofs.Judged.{clocks_right, clocks_none}
 use Rattle.log_records.proofs.judge.clocks_in.Goals as goal
 
-pub bounds-body-0 : goal.bounds-body-0
-bounds-body-0 c = omega (arith, clock_long c.args.version, c.requires)
-
-pub returns-then-body-ne3 : goal.returns-then-body-ne3
-returns-then-body-ne3 c = sym (other_kind c.args.end c.args.version c.args.body.now (ne_eqb _ _ c.if-body-ne3.true))
-
-pub returns-in_err-double : goal.returns-in_err-double
-returns-in_err-double c =
-    let said = rw c.in_err-double.was at c.clock_in.ensures in
-    rw c.from_residual.ensures (clocks_by c.args.end c.args.version c.args.body.now c.requires (eq-eqb _ _ c.if-body-ne3.false) said)
+pub returns-then-body-fair : goal.returns-then-body-fair
+returns-then-body-fair c =
+    let fair = c.fair in
+    let word_at = c.word_at-count in
+    let divider-in = c.divider_in-divider in
+    let clock-length = c.clock_length-length in
+    let args = c.args in
+    let pre = c.requires in
+    let if1 = c.if-body-fair in
+    let said = rw (fair.ensures, word_at.ensures, divider-in.ensures, clock-length.ensures.value) at if1.true in
+    rw (word_at.ensures, divider-in.ensures, clock-length.ensures.value)
+    (sym (clocks_right args.end args.version args.body.now pre said))
 
 pub returns : goal.returns
 returns c =
-    let said = rw c.in_ok-double.was at c.clock_in.ensures in
-    clocks_by c.args.end c.args.version c.args.body.now c.requires (eq-eqb _ _ c.if-body-ne3.false) said
+    let if1 = c.if-body-fair in
+    let fair = c.fair in
+    let word_at = c.word_at-count in
+    let divider-in = c.divider_in-divider in
+    let clock-length = c.clock_length-length in
+    let args = c.args in
+    let pre = c.requires in
+    let said = rw (fair.ensures, word_at.ensures, divider-in.ensures, clock-length.ensures.value) at if1.false in
+    sym (clocks_none args.end args.version args.body.now pre said)
