@@ -32,7 +32,7 @@ pub fn until(units: u64) -> u32
     requires { units < K }
     ensures { result ≡ away_of (units_of binary64 48 units) }
 {
-    (FRAME_UNITS - units).div_ceil(CLOCK_UNITS) as u32
+    ((FRAME_UNITS - units + (CLOCK_UNITS - 1)) / CLOCK_UNITS) as u32
 }
 
 // The units after the next frame, which is `due` working clocks away.
