@@ -13,7 +13,13 @@ four_at : (b : List ℕ) (s : ℕ) → s + 4 ≤ length b
     → take 4 (drop s b) ≡ get_or b s 0 ∷ get_or b (s + 1) 0 ∷ get_or b (s + 2) 0 ∷ get_or b (s + 3) 0 ∷ []
 four_at b s h =
     simp (add-one, add-two, add-three)
-    (rw (drop-cons b s 0 (omega arith), drop-cons b (suc s) 0 (omega arith), drop-cons b (suc (suc s)) 0 (omega arith), drop-cons b (suc (suc (suc s))) 0 (omega arith)) refl)
+    (rw (
+      drop-cons b s 0 (omega arith),
+      drop-cons b (suc s) 0 (omega arith),
+      drop-cons b (suc (suc s)) 0 (omega arith),
+      drop-cons b (suc (suc (suc s))) 0 (omega arith),
+    )
+    refl)
 
 -- four stores at the front
 front : (b : List ℕ) (w x y z : ℕ) → 4 ≤ length b → set (set (set (set b 0 w) 1 x) 2 y) 3 z ≡ (w ∷ x ∷ y ∷ z ∷ []) ++ drop 4 b
