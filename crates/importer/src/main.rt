@@ -2,20 +2,20 @@
 // number and the number that it returns to standard error. TOO LONG there is a file of more bytes than it takes.
 #![tactic(auto)]
 
+ghost use Rattle.std.specs.Prelude.{◌≡◌, length};
+
 use log_scan::refusal::Refusal;
 use log_vgm::import::import_log;
-use std::io::{self, ErrorKind, Read};
+use std::io::{self, Cursor, Input, Read};
 
 // The most bytes of a file that it takes. (The library has no such bound.)
 const MOST: usize = 1_048_576;
 
-// The file on standard input, and of a longer one a byte more than is taken. A read that fails ends it.
-fn read_file(rt: &(impl Input + AllocGlobal)) -> io::Result<Vec<u8>> {
-    let mut vgm = Vec::new(rt.alloc());
-    match rt.reader().take(MOST as u64 + 1).read_to_end(&mut vgm) {
-        Err(error) if error.kind() == ErrorKind::OutOfMemory => Err(error),
-        _ => Ok(vgm),
-    }
+// Room for those, and a byte more. (Its length is said here once: a check that works it out by itself runs out of stack.)
+fn room() -> [u8; MOST + 1]
+    ensures { 1048577 ≡ length result }
+{
+    [0; MOST + 1]
 }
 
 // Writes the file's log, or why there is none.
@@ -27,13 +27,21 @@ fn import(rt: &(impl Print + Eprint), vgm: &[u8]) -> io::Result<()> {
     }
 }
 
-fn main(rt: HostRuntime) -> io::Result<()> {
-    let vgm = read_file(&rt)?;
+// Reads to the front of the lent bytes, and says how many there are. A read that fails ends the file.
+fn read_file(rt: &impl Input, vgm: &mut [u8]) -> usize {
+    let most = vgm.len();
+    let mut taken = Cursor::new(vgm);
+    let _ = io::copy(&mut rt.reader().take(most as u64), &mut taken);
+    taken.position() as usize
+}
+
+// The file on standard input, and of a longer one a byte more than is taken.
+fn main(rt: HostRuntime) {
+    let mut vgm = room();
+    let end = read_file(&rt, &mut vgm);
     // What can't be written is passed over.
-    let _ = if MOST < vgm.len() {
-        eprintln!(rt; "TOO LONG")
-    } else {
-        import(&rt, &vgm)
+    let _ = match vgm.get(..end) {
+        Some(file) if end <= MOST => import(&rt, file),
+        _ => eprintln!(rt; "TOO LONG"),
     };
-    Ok(())
 }

@@ -12,11 +12,11 @@ use apu::registers::WrongAddress;
 use apu_clock::clock::{NoRoom, clock};
 use command::Command;
 use frame::buffers::Lent;
-use std::io::Read;
+use std::io::{self, Cursor, Input, Read};
 use text::{Frame, print_line};
 
-// The most commands that are taken: those in 65,536 bytes.
-const MOST: usize = 65_536 / 5;
+// The most bytes of commands that are read.
+const MOST: usize = 65_536;
 
 // One clock call, whose frame is printed where it makes one.
 fn show_clock(rt: &impl Print, unit: Apu, double: bool, divider: u8) -> Apu
@@ -120,15 +120,16 @@ fn show(rt: &impl Print, unit: Apu, command: Command) -> Apu
     }
 }
 
-// Each command as it is read; one that is cut short, or a read that fails, ends them.
+// All commands are read before the first is played, so that a caller may write them all and then read. One that is cut short, or a read that fails,
+// ends them.
 fn main(rt: HostRuntime) {
-    let mut input = rt.reader();
-    let mut command = [0; 5];
+    let mut bytes = [0; MOST];
+    let mut taken = Cursor::new(&mut bytes[..]);
+    let _ = io::copy(&mut rt.reader().take(MOST as u64), &mut taken);
+    let end = (taken.position() as usize).min(MOST);
+    let (commands, _) = bytes[..end].as_chunks();
     let mut unit = Apu::new(true);
-    for _ in 0..MOST {
-        if input.read_exact(&mut command).is_err() {
-            break;
-        }
-        unit = show(&rt, unit, Command::from(command));
+    for command in commands {
+        unit = show(&rt, unit, Command::from(*command));
     }
 }

@@ -2,5 +2,5 @@
 use Rattle.apu.specs.Held.{Held}
 use Rattle.sequences.proofs.main.Given as goal
 
-abbrev pub invariant-loop : goal.invariant-loop
-invariant-loop l = Held l.unit
+abbrev pub invariant-loop-command : goal.invariant-loop-command
+invariant-loop-command l = Held l.unit
