@@ -17,9 +17,9 @@ use Rattle.apu_run.proofs.Rows.{call_on, rows, rows_none, rows_first}
 use Rattle.apu_run.proofs.Beats.{call_by, call-by}
 
 -- ---- the divider stands
-pub stands : (double : Bool) (byte i k : ℕ) → OneBit double (Standing byte) i k
+pub stands : (double : Bool) (byte phase i k : ℕ) → OneBit double (Standing byte phase) i k
 unfolding divider_at
-stands double byte i k j l = refl
+stands double byte phase i k j l = refl
 
 -- ---- it runs: the bit is one of the number byte × 64 + phase + i
 place_is : (b p i : ℕ) → b + (p + i) / 64 ≡ (b * 64 + p + i) / 64

@@ -17,7 +17,7 @@ change_of double place = pick double (2048 - place % 2048) (1024 - place % 1024)
 
 -- of so many calls from call i on: where the divider runs, those up to the bit's next change; where it stands, all
 abbrev pub same_of : Bool → Divider → ℕ → ℕ → ℕ
-same_of double (Standing byte) i count = count
+same_of double (Standing byte phase) i count = count
 same_of double (Running byte phase) i count = min (change_of double (byte * 64 + phase + i)) count
 
 -- k calls from call i on see one bit

@@ -28,7 +28,7 @@ module _ (double : Bool) (d e : Divider) (m n : ℕ) (same : (i : ℕ) → i < n
 -- ---- some calls on
 onward_at : (d : Divider) (j i : ℕ) → divider_at d (j + i) ≡ divider_at (onward d j) i
 unfolding divider_at
-onward_at (Standing byte) j i = refl
+onward_at (Standing byte phase) j i = refl
 onward_at (Running byte phase) j i = steps byte phase j i
   where
     steps : (b p j i : ℕ) → (b + (p + (j + i)) / 64) % 256 ≡ ((b + (p + j) / 64) % 256 + ((p + j) % 64 + i) / 64) % 256
@@ -45,11 +45,11 @@ cut double d j k t =
 
 -- ---- before the next step
 near : (double : Bool) (byte phase count : ℕ) (t : Take) → byte ≤ 255 → phase + count ≤ 64
-    → rows double (Running byte phase) 0 count t ≡ rows double (Standing byte) 0 count t
+    → rows double (Running byte phase) 0 count t ≡ rows double (Standing byte 0) 0 count t
 unfolding divider_at
-near double byte phase count t b h = alike double (Running byte phase) (Standing byte) 0 count (λ i l. same byte phase count i b h l) 0 count t (within count)
+near double byte phase count t b h = alike double (Running byte phase) (Standing byte 0) 0 count (λ i l. same byte phase count i b h l) 0 count t (within count)
   where
-    same : (byte phase count i : ℕ) → byte ≤ 255 → phase + count ≤ 64 → i < count → divider_at (Running byte phase) (0 + i) ≡ divider_at (Standing byte) i
+    same : (byte phase count i : ℕ) → byte ≤ 255 → phase + count ≤ 64 → i < count → divider_at (Running byte phase) (0 + i) ≡ divider_at (Standing byte 0) i
     same byte phase count i b h l = omega arith
 
     within : (k : ℕ) → 0 + k ≤ k

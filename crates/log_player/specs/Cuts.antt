@@ -10,7 +10,7 @@ use Rattle.log_player.specs.Playing.{bytes_of, unit_after}
 
 -- what a record says of the divider that begins so many calls on
 abbrev pub onward : Divider → ℕ → Divider
-onward (Standing byte) calls = Standing byte
+onward (Standing byte phase) calls = Standing byte phase
 onward (Running byte phase) calls = Running (divider_at (Running byte phase) calls) ((phase + calls) % 64)
 
 pub record Cuts : Type 0 where
@@ -22,6 +22,6 @@ pub record Cuts : Type 0 where
       → unit_after (Ok (Clock double d (j + k))) a ≡ unit_after (Ok (Clock double (onward d j) k)) (unit_after (Ok (Clock double d j)) a)
   -- calls before the next step
   pub near_bytes : (double : Bool) (byte phase count : ℕ) (a : Apu) → byte ≤ 255 → phase + count ≤ 64
-      → bytes_of (Ok (Clock double (Running byte phase) count)) a ≡ bytes_of (Ok (Clock double (Standing byte) count)) a
+      → bytes_of (Ok (Clock double (Running byte phase) count)) a ≡ bytes_of (Ok (Clock double (Standing byte 0) count)) a
   pub near_unit : (double : Bool) (byte phase count : ℕ) (a : Apu) → byte ≤ 255 → phase + count ≤ 64
-      → unit_after (Ok (Clock double (Running byte phase) count)) a ≡ unit_after (Ok (Clock double (Standing byte) count)) a
+      → unit_after (Ok (Clock double (Running byte phase) count)) a ≡ unit_after (Ok (Clock double (Standing byte 0) count)) a

@@ -35,7 +35,7 @@ unfoldable pub clock_length : ℕ → ℕ
 clock_length version = pick (eqb version 1) 5 6
 
 unfoldable pub divider_in : ℕ → List ℕ → Divider
-divider_in version s = pick (eqb version 1) (Standing (get_or s 2 0)) (Running (get_or s 2 0) (get_or s 3 0))
+divider_in version s = pick (eqb version 1) (Standing (get_or s 2 0) 0) (Running (get_or s 2 0) (get_or s 3 0))
 
 -- the count is last
 abbrev pub count_in : ℕ → List ℕ → ℕ

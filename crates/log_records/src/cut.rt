@@ -13,16 +13,16 @@ pub fn cut_at(log: &[u8], at: usize) -> Result<Option<usize>, CutShort>
     let Some(rest) = log.get(at..) else {
         return Ok(None);
     };
-    match rest {
-        [high, low, after @ ..] => {
-            let len = u16::from_be_bytes([*high, *low]) as usize;
-            if after.len() < len {
-                return Err(CutShort);
-            }
-            Ok(Some(len))
+    if let [high, low, after @ ..] = rest {
+        let len = u16::from_be_bytes([*high, *low]) as usize;
+        if after.len() < len {
+            return Err(CutShort);
         }
-        [_] => Err(CutShort),
+        return Ok(Some(len));
+    }
+    match rest {
         [] => Ok(None),
+        _ => Err(CutShort),
     }
 }
 

@@ -2,10 +2,11 @@
 ghost use Rattle.std.specs.Prelude.{◌≡◌, ◌≤◌};
 ghost use Rattle.log_records.specs.Divider.{divider_at};
 
-// What a record says of it: a byte, which stands still, or runs on by 1 every 64 calls, `phase` of which are past.
+// What a record says of it: a byte, which stands still, or runs on by 1 every 64 calls, `phase` of which are past. One that stands may have any phase, and
+// no call sees it.
 #[derive(Clone, Copy)]
 pub enum Divider {
-    Standing { byte: u8 }, // in version 1
+    Standing { byte: u8, phase: u8 }, // in version 1, with phase 0
     Running { byte: u8, phase: u8 }, // from version 2 on
 }
 
@@ -15,7 +16,7 @@ pub fn divider_at(divider: Divider, i: u32) -> u8
     ensures { result ≡ divider_at divider i }
 {
     match divider {
-        Divider::Standing { byte } => byte,
+        Divider::Standing { byte, .. } => byte,
         Divider::Running { byte, phase } => {
             ((byte as u32 + (phase as u32 + i) / 64) % 256) as u8
         }

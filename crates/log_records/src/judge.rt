@@ -65,7 +65,10 @@ fn divider_in(version: u8, body: &[u8]) -> Divider
     ensures { result ≡ divider_in version body.now }
 {
     if version == 1 {
-        Divider::Standing { byte: body[2] }
+        Divider::Standing {
+            byte: body[2],
+            phase: 0,
+        }
     } else {
         Divider::Running {
             byte: body[2],
@@ -78,10 +81,7 @@ fn divider_in(version: u8, body: &[u8]) -> Divider
 fn fair(speed: u8, divider: Divider, count: u16) -> bool
     ensures { result ≡ fair_of speed (phase_of divider) count }
 {
-    let phase = match divider {
-        Divider::Standing { .. } => 0,
-        Divider::Running { phase, .. } => phase,
-    };
+    let (Divider::Standing { phase, .. } | Divider::Running { phase, .. }) = divider;
     (speed <= 1) & ((phase <= 63) & ((1 <= count) & (count <= 16384)))
 }
 
@@ -167,25 +167,29 @@ pub fn clocks_at(version: u8, log: &[u8], at: usize) -> Option<Clocks>
     }
 }
 
-// What a body says in a log of a version, by its kind. (Called, and not compiled into its callers, a scan of writes took half as long again.)
+// What a body says in a log of a version, by its kind. (Called, and not compiled into its callers, a scan of writes took half as long again; with the length
+// told before the kind, a scan of reads a third.)
 #[inline]
 pub fn judge(version: u8, body: &[u8]) -> Result<Record, WrongRecord>
     ensures { result ≡ judge_of version body.now }
 {
-    match body {
-        [1, high, low, value] => {
+    let [kind, rest @ ..] = body else {
+        return Err(WrongRecord);
+    };
+    match (*kind, rest) {
+        (1, [high, low, value]) => {
             let addr = address_of(*high, *low)?;
             Ok(Record::Write {
                 addr,
                 value: *value,
             })
         }
-        [2, high, low] => {
+        (2, [high, low]) => {
             let addr = address_of(*high, *low)?;
             Ok(Record::Read { addr })
         }
-        [3, ..] => judge_clock(version, body),
-        [4] => Ok(Record::Pcm),
+        (3, _) => judge_clock(version, body),
+        (4, []) => Ok(Record::Pcm),
         _ => Err(WrongRecord),
     }
 }

@@ -39,17 +39,6 @@ fn add(a: Sums, b: Sums) -> Sums
     }
 }
 
-// What two rows of records have, one after the other.
-fn join(a: Found, b: Found) -> Found
-    requires { Fits a.sums b.sums }
-    ensures { result ≡ both a b }
-{
-    Found {
-        wrong: a.wrong.or(b.wrong),
-        sums: add(a.sums, b.sums),
-    }
-}
-
 // The sums over one record.
 fn one_record(calls: u64, halves: u64, read_bytes: u64) -> Sums
     ensures { result ≡ one_record calls halves read_bytes }
@@ -82,18 +71,20 @@ fn sums_in(taken: Record) -> Sums
     }
 }
 
-// What a record's body has in a log of a version, its first length byte at the place.
-fn scan_record(version: u8, body: &[u8], place: usize) -> Found
-    ensures { result ≡ found_in place (judge_of version body.now) }
+// What some records have and one more after them: its body in a log of a version, its first length byte at the place. (A place is joined only where a record
+// is wrong: joined after each one, a scan took longer.)
+fn scan_record(found: Found, version: u8, body: &[u8], place: usize) -> Found
+    requires { Fits found.sums (sums_in (judge_of version body.now)) }
+    ensures { result ≡ both found (found_in place (judge_of version body.now)) }
 {
     match judge(version, body) {
         Ok(taken) => Found {
-            wrong: None,
-            sums: sums_in(taken),
+            sums: add(found.sums, sums_in(taken)),
+            ..found
         },
         Err(WrongRecord) => Found {
-            wrong: Some(place),
-            sums: one_record(0, 0, 0),
+            wrong: found.wrong.or(Some(place)),
+            sums: add(found.sums, one_record(0, 0, 0)),
         },
     }
 }
@@ -121,8 +112,7 @@ pub fn scan_list(version: u8, log: &[u8]) -> Found
                 Ok(Some(len)) => {
                     let from = at + 2;
                     let to = from + len;
-                    let more = scan_record(version, &log[from..to], at);
-                    found = join(found, more);
+                    found = scan_record(found, version, &log[from..to], at);
                     at = to;
                 }
             }

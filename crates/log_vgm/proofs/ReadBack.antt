@@ -23,7 +23,7 @@ use Rattle.log_vgm.specs.Log.{record_bytes, written}
 abbrev pub Right : Judged → Type 0
 Right (Ok (Write addr value)) = is_sound addr ≡ true
 Right (Ok (Read addr)) = is_sound addr ≡ true
-Right (Ok (Clock double (Standing byte) count)) = 1 ≤ 0
+Right (Ok (Clock double (Standing byte phase) count)) = 1 ≤ 0
 Right (Ok (Clock double (Running byte phase) count)) = (phase ≤ 63) × ((1 ≤ count) × (count ≤ 16384))
 Right (Ok Pcm) = 0 ≤ 0
 Right (Err fault) = 1 ≤ 0
@@ -71,7 +71,7 @@ one : (r : Judged) → Right r → records_of (log_of_one r) ≡ item 2 r done
 unfolding cut_at pick
 one (Ok (Write addr value)) h = alone (log_of_one (Ok (Write addr value))) 4 (Ok (Write addr value)) refl refl (judged_write addr value h)
 one (Ok (Read addr)) h = alone (log_of_one (Ok (Read addr))) 3 (Ok (Read addr)) refl refl (judged_read addr h)
-one (Ok (Clock double (Standing byte) count)) h = absurd (not-suc-le-zero h)
+one (Ok (Clock double (Standing byte phase) count)) h = absurd (not-suc-le-zero h)
 one (Ok (Clock double (Running byte phase) count)) h =
     let r : Judged = Ok (Clock double (Running byte phase) count) in
     alone (log_of_one r) 6 r refl refl (judged_clock double byte phase count h)

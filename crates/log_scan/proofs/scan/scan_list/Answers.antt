@@ -61,14 +61,12 @@ slice_bounds-scan_record-end c =
     let loop = c.loop-clocks in
     let h = body_fits _ loop.at _ (sym (rw c.in-Ok-Some.field-0-is at c.in-Ok-Some.ensures)) in omega arith
 
-pub join-found-requires : goal.join-found-requires
-join-found-requires c =
-    let scan-record = c.scan_record-more in
+pub scan_record-found-requires : goal.scan_record-found-requires
+scan_record-found-requires c =
     let loop = c.loop-clocks in
     let n = c.in-Ok-Some.len in
     let is = at_body _ _ loop.at n (sym (rw c.in-Ok-Some.field-0-is at c.in-Ok-Some.ensures)) in
-    let more = rw (add-sub_cancel_left (loop.at + 2) n) at scan-record.ensures in
-    rw more (fits loop.invariant _ _ is c.requires)
+    rw (add-sub_cancel_left (loop.at + 2) n) (fits loop.invariant _ _ is c.requires)
 
 pub loop-clocks-smaller : goal.loop-clocks-smaller
 loop-clocks-smaller c =
@@ -77,10 +75,8 @@ loop-clocks-smaller c =
 
 pub loop-clocks-preserved : goal.loop-clocks-preserved
 loop-clocks-preserved c =
-    let join2 = c.join-found in
-    let scan-record = c.scan_record-more in
     let loop = c.loop-clocks in
     let n = c.in-Ok-Some.len in
     let cut = sym (rw c.in-Ok-Some.field-0-is at c.in-Ok-Some.ensures) in
-    let more = rw (add-sub_cancel_left (loop.at + 2) n) at scan-record.ensures in
-    rw (join2.ensures, more) (turn loop.invariant _ _ (at_body _ _ loop.at n cut) (body_fits _ loop.at n cut))
+    let found = rw (add-sub_cancel_left (loop.at + 2) n) at c.scan_record-found.ensures in
+    rw found (turn loop.invariant _ _ (at_body _ _ loop.at n cut) (body_fits _ loop.at n cut))
