@@ -22,15 +22,43 @@ def libraries():
             yield crate, folder
 
 
+def named(kind):
+    """A type or a trait with its arguments, as the checker writes it in a name: TooShort, U8 for u8, FromTooShort, ArrayU85 for five of u8."""
+    return "".join(word[0].upper() + word[1:] for word in re.findall(r"\w+", kind.replace("[", "Array ")))
+
+
+def promises():
+    """What the traits of the libraries promise of their methods, by trait and method."""
+    said = {}
+    for _, folder in libraries():
+        for file in (folder / "src").glob("*.rt"):
+            for trait, members in re.findall(r"(?ms)^pub trait (\w+)(.*?)^\}", file.read_text()):
+                for text in re.split(r"(?m)^    (?=\S)", members):
+                    if text.startswith("fn "):
+                        said[trait, re.match(r"fn (\w+)", text)[1]] = text
+    return said
+
+
 def exported(folder):
-    """The functions that a library's files mark pub: file, name with its type, and text."""
+    """The functions that a library gives: file, name, and the text that has its promise.
+
+    They are those marked pub, named with their type, and the methods that an impl written by hand gives a type of a trait, named as the checker names
+    them: the type, then the trait with its arguments, as in PlayedWritten::written or MakeRefusalFromTooShort::from. What such a method promises stands
+    where its trait is declared, and of a From in the impl, in from_gives; a method of a trait that no library declares has no promise."""
+    said = promises()
     for file in sorted((folder / "src").glob("*.rt")):
+        source = file.read_text()
         kind = ""
-        for text in re.split(r"(?m)^(?=impl[ <]|\}|    pub |pub )", file.read_text()):
+        for text in re.split(r"(?m)^(?=impl[ <]|\}|    pub |pub )", source):
             kind = (re.match(r"impl(?:<[^>]*>)? (\w+)", text) or [None, "" if text.startswith(("}", "pub ")) else kind])[1]
             name = re.match(r'\s*pub (?:extern "C" )?fn (\w+)', text)
             if name:
                 yield file, f"{kind}::{name[1]}" if kind else name[1], text
+        for trait, kind, members in re.findall(r"(?ms)^impl(?:<[^>]*>)? ([^{]+?) for ([^{<]+?)(?:<[^{]*|\s+where\b[^{]*)?\s*\{\n(.*?)^\}", source):
+            of = re.match(r"\w+", trait)[0]
+            gives = re.search(r"(?m)^    ghost from_gives = .*", members)
+            for name in re.findall(r"(?m)^    fn (\w+)", members):
+                yield file, f"{named(kind)}{named(trait)}::{name}", gives[0] if of == "From" and gives else said.get((of, name), "")
 
 
 def answers_in(text):
