@@ -8,8 +8,9 @@ use Rattle.apu_run.proofs.calls.same_bit.Goals as goal
 
 pub returns-in-Standing : goal.returns-in-Standing
 returns-in-Standing c =
-    rw c.in-Standing.is
-    (record { value = refl; lower_bound = (c.requires.le_count, omega arith); one_bit = stands c.args.double c.in-Standing.byte c.in-Standing.phase c.args.i c.args.count })
+    let a = c.args in
+    let same = stands a.double c.in-Standing.byte c.in-Standing.phase a.i a.count in
+    rw c.in-Standing.is (record { value = refl; lower_bound = (c.requires.le_count, omega arith); one_bit = same })
 
 pub returns-in-Running : goal.returns-in-Running
 returns-in-Running c =
